@@ -1,0 +1,4 @@
+pub mod ReadEffects
+pub mod Buffers
+pub mod Fetching
+pub mod Framed

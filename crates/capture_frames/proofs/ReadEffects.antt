@@ -1,0 +1,31 @@
+-- Calls that only read, joined.
+use Rattle.std.proofs.Common.{◌≡◌, ℕ, List, [], ◌∷◌, ◌++◌, refl, sym, ◌∙◌, ap, subst}
+use Rattle.std.proofs.lemmas.List.{append-nil}
+use Rattle.scl_outside.specs.Meaning.{Meaning}
+use Rattle.scl_outside.specs.Events.{Event, Took, Ended, ReadFailed}
+use Rattle.scl_outside.specs.Effects.{Effects, nothing, only_read, read_until_failed, effect_of, and_then, effects}
+use Rattle.scl_outside.proofs.Traces.{effects-append, and_then-nothing}
+
+-- the effects of calls, and then others
+pub effects_then : (es fs : List Event) (f g : Effects) → effects es ≡ f → effects fs ≡ g → effects (es ++ fs) ≡ and_then f g
+effects_then es fs f g e h = effects-append es fs ∙ (ap (λ (x : Effects). and_then x (effects fs)) e ∙ ap (λ (x : Effects). and_then f x) h)
+
+-- one more call
+pub effects_more : (es : List Event) (e : Event) (f : Effects) → effects es ≡ f → effects (es ++ e ∷ []) ≡ and_then f (effect_of e)
+effects_more es e f is = effects_then es (e ∷ []) f (effect_of e) is (and_then-nothing (effect_of e))
+
+-- reads of bytes and then a read that took none
+pub read_none : (bytes : List ℕ) → and_then (only_read bytes) nothing ≡ only_read bytes
+read_none bytes = and_then-nothing (only_read bytes)
+
+-- reads of bytes and then a read that failed
+pub read_failed : (bytes : List ℕ) → and_then (only_read bytes) (read_until_failed []) ≡ read_until_failed bytes
+read_failed bytes = ap (λ (l : List ℕ). read_until_failed l) (append-nil bytes)
+
+-- effects that are reads of some bytes are reads of their own
+pub own_read : (f : Effects) (bytes : List ℕ) → f ≡ only_read bytes → f ≡ only_read f.read
+own_read f bytes e = e ∙ ap (λ (x : Effects). only_read x.read) (sym e)
+
+-- reads after reads are reads
+pub reads_after : (a : List ℕ) (f g : Effects) → f ≡ only_read a → g ≡ only_read g.read → and_then f g ≡ only_read (a ++ g.read)
+reads_after a f g e h = ap (λ (x : Effects). and_then x g) e ∙ ap (λ (x : Effects). and_then (only_read a) x) h

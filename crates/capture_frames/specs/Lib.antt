@@ -1,0 +1,3 @@
+pub mod FramesState
+pub mod Reading
+pub mod Writing

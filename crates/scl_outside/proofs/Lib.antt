@@ -1,0 +1,4 @@
+pub mod InMemory
+pub mod Traces
+pub mod Affects
+pub mod Prompted

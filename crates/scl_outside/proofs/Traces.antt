@@ -1,0 +1,71 @@
+-- Lists of calls, joined.
+use Rattle.std.proofs.Common.{◌≡◌, ℕ, List, [], ◌∷◌, ◌++◌, Bool, true, false, ◌||◌, refl, sym, ◌∙◌, ap, subst, append_assoc}
+use Rattle.std.specs.Prelude.{MatchBool}
+use Rattle.std.proofs.lemmas.List.{append-nil}
+use Rattle.scl_outside.specs.Meaning.{Meaning}
+use Rattle.scl_outside.specs.Events.{Event, asks}
+use Rattle.scl_outside.specs.Steps.{Step}
+use Rattle.scl_outside.specs.Effects.{Effects, nothing, effect_of, and_then, effects}
+use Rattle.scl_outside.specs.Traces.{Trace, AtReads}
+
+or-false : (b : Bool) → (b || false) ≡ b
+or-false true = refl
+or-false false = refl
+
+or-assoc : (a b c : Bool) → ((a || b) || c) ≡ (a || (b || c))
+or-assoc true b c = refl
+or-assoc false b c = refl
+
+-- effects, and then none
+pub and_then-nothing : (f : Effects) → and_then f nothing ≡ f
+and_then-nothing f = rw (append-nil f.read, append-nil f.written, append-nil f.noted, append-nil f.wire, or-false f.read_failed, or-false f.write_failed) refl
+
+pub and_then-assoc : (f g h : Effects) → and_then (and_then f g) h ≡ and_then f (and_then g h)
+and_then-assoc f g h = rw (append_assoc f.read g.read h.read, append_assoc f.written g.written h.written, append_assoc f.noted g.noted h.noted, append_assoc f.wire g.wire h.wire, or-assoc f.read_failed g.read_failed h.read_failed, or-assoc f.write_failed g.write_failed h.write_failed) refl
+
+-- what calls did, and then others
+pub effects-append : (es fs : List Event) → effects (es ++ fs) ≡ and_then (effects es) (effects fs)
+effects-append [] fs = refl
+effects-append (e ∷ es) fs = ap (λ (f : Effects). and_then (effect_of e) f) (effects-append es fs) ∙ sym (and_then-assoc (effect_of e) (effects es) (effects fs))
+
+-- some calls, and then others
+pub trace_join : (s t u : Meaning) (es fs : List Event) → Trace s es t → Trace t fs u → Trace s (es ++ fs) u
+trace_join s t u [] fs e more = let P : Meaning → Type 0 = λ x. Trace x fs u in subst P e more
+trace_join s t u (e ∷ es) fs (m, step, rest) more = (m, step, trace_join m t u es fs rest more)
+
+-- one call
+pub trace_one : (s t : Meaning) (e : Event) → Step s e t → Trace s (e ∷ []) t
+trace_one s t e step = (t, step, refl)
+
+-- what holds before each read of some calls, and of others after them, holds before each read of both
+pub at_reads_join : (P : Effects → Type 0) (done : Effects) (es fs : List Event) → AtReads P done es → AtReads P (and_then done (effects es)) fs → AtReads P done (es ++ fs)
+at_reads_join P done [] fs p q = let R : Effects → Type 0 = λ f. AtReads P f fs in subst R (and_then-nothing done) q
+at_reads_join P done (e ∷ es) fs p q =
+    let R : Effects → Type 0 = λ f. AtReads P f fs in
+    (p.0, at_reads_join P (and_then done (effect_of e)) es fs p.1 (subst R (sym (and_then-assoc done (effect_of e) (effects es))) q))
+
+-- a fact before a read, or none before another call
+at_ask : (b : Bool) (P Q : Type 0) → (P → Q) → MatchBool b P (Unit {0}) → MatchBool b Q (Unit {0})
+at_ask true P Q f p = f p
+at_ask false P Q f p = tt
+
+-- what holds before each read of calls holds of the same calls after others, where it follows there
+pub at_reads_after : (P Q : Effects → Type 0) (before done : Effects) (es : List Event) → ((f : Effects) → P f → Q (and_then before f)) → AtReads P done es → AtReads Q (and_then before done) es
+at_reads_after P Q before done [] follows p = tt
+at_reads_after P Q before done (e ∷ es) follows p =
+    let R : Effects → Type 0 = λ f. AtReads Q f es in (
+      at_ask (asks e) (P done) (Q (and_then before done)) (follows done) p.0,
+      subst R (sym (and_then-assoc before done (effect_of e))) (at_reads_after P Q before (and_then done (effect_of e)) es follows p.1),
+    )
+
+-- the usual use of both: calls with what held before each of their reads, and then others with what held in their own words
+pub at_reads_then : (P Q : Effects → Type 0) (es fs : List Event) → AtReads Q nothing es → ((f : Effects) → P f → Q (and_then (effects es) f)) → AtReads P nothing fs → AtReads Q nothing (es ++ fs)
+at_reads_then P Q es fs first follows then =
+    let later : AtReads Q (and_then (effects es) nothing) fs = at_reads_after P Q (effects es) nothing fs follows then in
+    let R : Effects → Type 0 = λ f. AtReads Q f fs in
+    at_reads_join Q nothing es fs first (subst R (and_then-nothing (effects es)) later)
+
+-- what holds before each read, where more follows from it
+pub at_reads_map : (P Q : Effects → Type 0) (done : Effects) (es : List Event) → ((f : Effects) → P f → Q f) → AtReads P done es → AtReads Q done es
+at_reads_map P Q done [] follows p = tt
+at_reads_map P Q done (e ∷ es) follows p = (at_ask (asks e) (P done) (Q done) (follows done) p.0, at_reads_map P Q (and_then done (effect_of e)) es follows p.1)

@@ -1,0 +1,9 @@
+pub mod Meaning
+pub mod Events
+pub mod Steps
+pub mod Effects
+pub mod Traces
+pub mod Prompt
+pub mod Answers
+pub mod Record
+pub mod Memory

@@ -1,0 +1,59 @@
+-- What an object in memory tells.
+use Rattle.std.specs.Prelude.{ℕ, List, [], Option, Some, take, drop}
+use Rattle.scl_outside.specs.declared.memory.DuctMem.{DuctMem}
+use Rattle.scl_outside.specs.declared.memory.NeverFails.{NeverFails}
+use Rattle.scl_outside.specs.declared.duct.Mark.{Mark}
+use Rattle.scl_outside.specs.Meaning.{Meaning, Wire}
+use Rattle.scl_outside.specs.Record.{told_of, room_of}
+
+-- no wire: nothing comes in, and nothing is sent
+abbrev pub no_wire : Wire
+no_wire = record {
+  inbound = Some [];
+  received = Some [];
+  sent = Some [];
+  replies = Some [];
+  bound = Some [];
+  joined = Some [];
+  peers = 0;
+  faults = 0;
+  peer_faults = λ peer. 0;
+}
+
+-- an object over this input that stands at this place of it, with these records and counts
+abbrev pub memory_meaning : List ℕ → ℕ → Option (List ℕ) → Option (List ℕ) → Option (List Mark) → ℕ → ℕ → Meaning
+memory_meaning input at written noted marks read_faults write_faults = record {
+  read = Some (take at input);
+  left = Some (drop at input);
+  written = written;
+  noted = noted;
+  marks = marks;
+  wire = no_wire;
+  read_faults = read_faults;
+  write_faults = write_faults;
+}
+
+-- what a duct in memory tells
+abbrev pub meaning_of : DuctMem → Meaning
+meaning_of d = memory_meaning d.input.items d.at (told_of d.written) (told_of d.noted) (told_of d.marks) d.read_faults d.write_faults
+
+-- what one that never fails tells: its counts are the constant 0
+abbrev pub sure_meaning : NeverFails → Meaning
+sure_meaning d = record (meaning_of d.inner) { read_faults = 0; write_faults = 0 }
+
+-- the room of the records
+abbrev pub room_for_written : DuctMem → ℕ
+room_for_written d = room_of d.written
+
+abbrev pub room_for_noted : DuctMem → ℕ
+room_for_noted d = room_of d.noted
+
+abbrev pub room_for_marks : DuctMem → ℕ
+room_for_marks d = room_of d.marks
+
+-- the numbers of the reads that are to fail, and of the writes
+abbrev pub reads_to_fail : DuctMem → List ℕ
+reads_to_fail d = d.bad_reads.items
+
+abbrev pub writes_to_fail : DuctMem → List ℕ
+writes_to_fail d = d.bad_writes.items

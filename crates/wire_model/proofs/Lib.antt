@@ -1,0 +1,9 @@
+pub mod FramingLaws
+pub mod DatagramLaws
+pub mod Captures
+pub mod WorkedCaptures
+pub mod PayloadLaws
+pub mod PayloadFound
+pub mod Lists
+pub mod RtpLaws
+pub mod RtpFound

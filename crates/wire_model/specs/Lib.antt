@@ -1,0 +1,10 @@
+pub mod Causes
+pub mod Bytes
+pub mod Framing
+pub mod Rtp
+pub mod RtpReading
+pub mod Payload
+pub mod PayloadReading
+pub mod Datagram
+pub mod Thinning
+pub mod Laws

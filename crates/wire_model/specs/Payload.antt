@@ -1,0 +1,92 @@
+-- The payload of a datagram: a Main or a Body header, and codestream bytes (this project's profile after RFC 9828).
+use Rattle.std.specs.Prelude.{◌≡◌, ◌<◌, ◌≤◌, ◌+◌, ◌-◌, ◌*◌, ◌/◌, ◌%◌, ◌^◌, ℕ, Bool, true, List, ◌∷◌, ◌++◌, length, slice_index}
+use Rattle.wire_model.specs.Bytes.{bit}
+
+-- the values of a Main header that are read: ESEQ and XTRAC
+pub record MainFields : Type 0 where
+  pub eseq : ℕ
+  pub xtrac : ℕ
+
+-- the values of a Body header that are read: RES, ESEQ, ORDB, POS and PID
+pub record BodyFields : Type 0 where
+  pub res : ℕ
+  pub eseq : ℕ
+  pub ordb : Bool
+  pub pos : ℕ
+  pub pid : ℕ
+
+pub data PayloadFields : Type 0 where
+  Main : MainFields → PayloadFields
+  Body : BodyFields → PayloadFields
+
+-- The bytes are a Main: MH 2 (not 0), TP 3, ORDH 3, P 1, XTRAC 3, PTSTAMP 12, ESEQ 8, R 1, S 1, C 1, RSVD 4, RANGE 1,
+-- PRIMS 8, TRANS 8, MAT 8 bits; XTRAC times four bytes that are skipped; and the codestream bytes.
+pub record IsMain (h : MainFields) (codestream bytes : List ℕ) : Type 0 where
+  pub mh_tp_ordh : ℕ
+  pub p : ℕ
+  pub ptstamp : ℕ
+  pub colour : List ℕ
+  pub extra : List ℕ
+  pub is_main : 64 ≤ mh_tp_ordh
+  pub mh_fits : mh_tp_ordh < 2 ^ 8
+  pub p_fits : p < 2
+  pub xtrac_fits : h.xtrac < 2 ^ 3
+  pub ptstamp_fits : ptstamp < 2 ^ 12
+  pub eseq_fits : h.eseq < 2 ^ 8
+  pub is_colour : length colour ≡ 4
+  pub is_extra : length extra ≡ 4 * h.xtrac
+  pub whole : bytes ≡
+      mh_tp_ordh
+      ∷ (p * 128 + h.xtrac * 16 + ptstamp / 256)
+      ∷ (ptstamp % 256)
+      ∷ h.eseq
+      ∷ (colour ++ (extra ++ codestream))
+
+-- The bytes are a Body: MH 2 (0), TP 3, RES 3, ORDB 1, QUAL 3, PTSTAMP 12, ESEQ 8, POS 12, PID 20 bits, and the
+-- codestream bytes. With ORDB = 1 the byte at POS is one of them.
+pub record IsBody (h : BodyFields) (codestream bytes : List ℕ) : Type 0 where
+  pub tp : ℕ
+  pub qual : ℕ
+  pub ptstamp : ℕ
+  pub tp_fits : tp < 2 ^ 3
+  pub qual_fits : qual < 2 ^ 3
+  pub ptstamp_fits : ptstamp < 2 ^ 12
+  pub res_fits : h.res < 2 ^ 3
+  pub eseq_fits : h.eseq < 2 ^ 8
+  pub pos_fits : h.pos < 2 ^ 12
+  pub pid_fits : h.pid < 2 ^ 20
+  pub whole : bytes ≡
+      (tp * 8 + h.res)
+      ∷ (bit h.ordb * 128 + qual * 16 + ptstamp / 256)
+      ∷ (ptstamp % 256)
+      ∷ h.eseq
+      ∷ (h.pos / 16)
+      ∷ (h.pos % 16 * 16 + h.pid / 65536)
+      ∷ (h.pid / 256 % 256)
+      ∷ (h.pid % 256)
+      ∷ codestream
+  pub marked : h.ordb ≡ true → h.pos < length codestream
+
+-- a payload of either kind
+abbrev pub IsPayload : PayloadFields → List ℕ → List ℕ → Type 0
+IsPayload (Main h) codestream bytes = IsMain h codestream bytes
+IsPayload (Body h) codestream bytes = IsBody h codestream bytes
+
+-- XTRAC and POS, where a header has them
+abbrev pub xtrac_at : List ℕ → ℕ
+xtrac_at b = slice_index b 1 / 16 % 8
+
+abbrev pub pos_at : List ℕ → ℕ
+pos_at b = slice_index b 4 * 16 + slice_index b 5 / 16
+
+-- why bytes aren't a payload: fewer than eight bytes,
+abbrev pub IsShortOfPayload : List ℕ → Type 0
+IsShortOfPayload b = length b < 8
+
+-- a Main whose skipped bytes pass the end,
+abbrev pub IsPastExtension : List ℕ → Type 0
+IsPastExtension b = (8 ≤ length b) × (64 ≤ slice_index b 0) × (length b < 8 + 4 * xtrac_at b)
+
+-- or a Body with ORDB = 1 whose POS isn't below the number of codestream bytes
+abbrev pub IsPastPos : List ℕ → Type 0
+IsPastPos b = (8 ≤ length b) × (slice_index b 0 < 64) × (128 ≤ slice_index b 1) × (length b - 8 ≤ pos_at b)
