@@ -8,10 +8,10 @@ use Rattle.scl_outside.specs.Events.{Event, Took, Ended, ReadFailed}
 use Rattle.scl_outside.specs.Steps.{Step}
 use Rattle.scl_outside.specs.Effects.{Effects, nothing, only_read, read_until_failed, effect_of, and_then, effects}
 use Rattle.scl_outside.specs.Traces.{Trace, AtReads, IsOver}
-use Rattle.scl_outside.proofs.Traces.{trace_join, trace_one, at_reads_join, at_reads_then, and_then-nothing}
+use Rattle.scl_outside.proofs.Traces.{effects_then, effects_more, trace_join, trace_one, at_reads_join, at_reads_then, and_then-nothing}
 use Rattle.capture_frames.specs.Reading.{Below, Fills, Skips}
 use Rattle.capture_frames.specs.declared.filling.Filled.TheVariants.{All, Short, Failed}
-use Rattle.capture_frames.proofs.ReadEffects.{effects_then, effects_more, read_none, read_failed, own_read, reads_after}
+use Rattle.capture_frames.proofs.ReadEffects.{read_none, read_failed, own_read, reads_after}
 
 -- so far these many bytes of a buffer came
 pub record Filling (s t : Meaning) (at : ℕ) (buf : List ℕ) (es : List Event) : Type 0 where

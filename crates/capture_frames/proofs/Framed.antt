@@ -9,11 +9,11 @@ use Rattle.scl_outside.specs.Meaning.{Meaning}
 use Rattle.scl_outside.specs.Events.{Event}
 use Rattle.scl_outside.specs.Effects.{Effects, nothing, only_read, read_until_failed, and_then, effects}
 use Rattle.scl_outside.specs.Traces.{Trace, AtReads}
-use Rattle.scl_outside.proofs.Traces.{trace_join, at_reads_then, at_reads_map}
+use Rattle.scl_outside.proofs.Traces.{effects_then, trace_join, at_reads_then, at_reads_map}
 use Rattle.capture_frames.specs.Reading.{Wishes, InsideFrame, Fetches, ReadsFrame, FrameGives, answer_for, body_length, left_at}
 use Rattle.capture_frames.specs.declared.filling.Fetched.TheVariants.{All, Short, Past, Failed}
 use Rattle.capture_frames.specs.declared.reader.FrameOut.TheVariants.{Whole, Empty, Oversize, End, Cut, TooLong, ReadFault}
-use Rattle.capture_frames.proofs.ReadEffects.{effects_then, own_read, reads_after}
+use Rattle.capture_frames.proofs.ReadEffects.{own_read, reads_after}
 
 take_all : (xs : List ℕ) (n : ℕ) → length xs ≡ n → take n xs ≡ xs
 take_all xs n e = ap (λ (l : List ℕ). take n l) (sym (append-nil xs)) ∙ take_at xs [] n e

@@ -6,14 +6,6 @@ use Rattle.scl_outside.specs.Events.{Event, Took, Ended, ReadFailed}
 use Rattle.scl_outside.specs.Effects.{Effects, nothing, only_read, read_until_failed, effect_of, and_then, effects}
 use Rattle.scl_outside.proofs.Traces.{effects-append, and_then-nothing}
 
--- the effects of calls, and then others
-pub effects_then : (es fs : List Event) (f g : Effects) → effects es ≡ f → effects fs ≡ g → effects (es ++ fs) ≡ and_then f g
-effects_then es fs f g e h = effects-append es fs ∙ (ap (λ (x : Effects). and_then x (effects fs)) e ∙ ap (λ (x : Effects). and_then f x) h)
-
--- one more call
-pub effects_more : (es : List Event) (e : Event) (f : Effects) → effects es ≡ f → effects (es ++ e ∷ []) ≡ and_then f (effect_of e)
-effects_more es e f is = effects_then es (e ∷ []) f (effect_of e) is (and_then-nothing (effect_of e))
-
 -- reads of bytes and then a read that took none
 pub read_none : (bytes : List ℕ) → and_then (only_read bytes) nothing ≡ only_read bytes
 read_none bytes = and_then-nothing (only_read bytes)

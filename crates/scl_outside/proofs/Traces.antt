@@ -1,6 +1,7 @@
 -- Lists of calls, joined.
 use Rattle.std.proofs.Common.{◌≡◌, ℕ, List, [], ◌∷◌, ◌++◌, Bool, true, false, ◌||◌, refl, sym, ◌∙◌, ap, subst, append_assoc}
 use Rattle.std.specs.Prelude.{MatchBool}
+use Rattle.std.specs.List.{AllByRecursion}
 use Rattle.std.proofs.lemmas.List.{append-nil}
 use Rattle.scl_outside.specs.Meaning.{Meaning}
 use Rattle.scl_outside.specs.Events.{Event, asks}
@@ -27,6 +28,14 @@ and_then-assoc f g h = rw (append_assoc f.read g.read h.read, append_assoc f.wri
 pub effects-append : (es fs : List Event) → effects (es ++ fs) ≡ and_then (effects es) (effects fs)
 effects-append [] fs = refl
 effects-append (e ∷ es) fs = ap (λ (f : Effects). and_then (effect_of e) f) (effects-append es fs) ∙ sym (and_then-assoc (effect_of e) (effects es) (effects fs))
+
+-- the effects of calls, and then others
+pub effects_then : (es fs : List Event) (f g : Effects) → effects es ≡ f → effects fs ≡ g → effects (es ++ fs) ≡ and_then f g
+effects_then es fs f g e h = effects-append es fs ∙ (ap (λ (x : Effects). and_then x (effects fs)) e ∙ ap (λ (x : Effects). and_then f x) h)
+
+-- one more call
+pub effects_more : (es : List Event) (e : Event) (f : Effects) → effects es ≡ f → effects (es ++ e ∷ []) ≡ and_then f (effect_of e)
+effects_more es e f is = effects_then es (e ∷ []) f (effect_of e) is (and_then-nothing (effect_of e))
 
 -- some calls, and then others
 pub trace_join : (s t u : Meaning) (es fs : List Event) → Trace s es t → Trace t fs u → Trace s (es ++ fs) u
@@ -69,3 +78,8 @@ at_reads_then P Q es fs first follows then =
 pub at_reads_map : (P Q : Effects → Type 0) (done : Effects) (es : List Event) → ((f : Effects) → P f → Q f) → AtReads P done es → AtReads Q done es
 at_reads_map P Q done [] follows p = tt
 at_reads_map P Q done (e ∷ es) follows p = (at_ask (asks e) (P done) (Q done) (follows done) p.0, at_reads_map P Q (and_then done (effect_of e)) es follows p.1)
+
+-- calls that don't ask for input have no read before which anything would have to hold
+pub at_reads_none : (P : Effects → Type 0) (done : Effects) (es : List Event) → AllByRecursion (λ e. asks e ≡ false) es → AtReads P done es
+at_reads_none P done [] none = tt
+at_reads_none P done (e ∷ es) none = (rw none.0 tt, at_reads_none P (and_then done (effect_of e)) es none.1)

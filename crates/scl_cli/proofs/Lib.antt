@@ -1,0 +1,4 @@
+pub mod Keeping
+pub mod TurnsTaken
+pub mod SoFar
+pub mod Runs

@@ -1,0 +1,36 @@
+//! The grammar of a command line.
+ghost use Rattle.std.specs.Prelude.{◌≡◌, ◌≤◌, ◌<◌, ◌∷◌, [], ◌+◌, List, ℕ, IfSome, Some, codes, slice_get, length};
+ghost use Rattle.scl_cli.specs.declared.command.Command.{Command};
+ghost use Rattle.scl_cli.specs.Commands.{Spells};
+
+use crate::Words;
+
+/// What the program is asked to do.
+#[derive(Clone, Copy, Debug, PartialEq, Eq)]
+pub enum Command {
+    /// `thin T`: pass on the frames of a capture that serve a receiver with the limit T, 0 to 7.
+    Thin(u8),
+}
+
+/// The command that the words spell.
+pub fn command_of(words: &Words) -> Option<Command>
+    ensures spelt { IfSome result (λ command. Spells command words.now) }
+    ensures all { (command : Command) → Spells command words.now → result ≡ Some command }
+{
+    if words.len() != 2 || words.get(0) != "thin" {
+        return None;
+    }
+    let limit = limit_of(words.get(1))?;
+    Some(Command::Thin(limit))
+}
+
+/// A limit, 0 to 7, in one digit.
+fn limit_of(word: &str) -> Option<u8>
+    ensures spelt { IfSome result (λ limit. (limit ≤ 7) × (word.now ≡ (48 + limit) ∷ [])) }
+    ensures all { (limit : ℕ) → limit ≤ 7 → word.now ≡ (48 + limit) ∷ [] → result ≡ Some limit }
+{
+    match word.as_bytes() {
+        [digit @ b'0'..=b'7'] => Some(*digit - b'0'),
+        _ => None,
+    }
+}
