@@ -13,3 +13,6 @@ pub use ending::{Ending, Reason, Refusal};
 pub use machine::Machine;
 pub use running::run;
 pub use words::Words;
+
+#[cfg(test)]
+mod tests;

@@ -1,0 +1,40 @@
+//! Over an object that never fails the words and the input alone decide.
+ghost use Rattle.std.specs.Prelude.{◌≡◌, ◌⊎◌, List, ℕ, Some};
+ghost use Rattle.scl_outside.specs.Memory.{sure_meaning};
+ghost use Rattle.scl_cli.specs.declared.command.Command.{Command};
+ghost use Rattle.scl_cli.specs.declared.ending.Refusal.{Refusal};
+ghost use Rattle.scl_cli.specs.Commands.{Spells};
+ghost use Rattle.scl_cli.specs.Made.{Accepts, Refuses};
+
+use super::*;
+
+/// No fault is answered, an accepted input gives 0 and a refused one 6.
+fn run_surely(alloc: Global, words: &Words, duct: &mut NeverFails) -> u8
+    ensures no_fault { (result ≡ 0) ⊎ ((result ≡ 2) ⊎ (result ≡ 6)) }
+    ensures decided { (command : Command) (input : List ℕ) → Spells command words.now → (sure_meaning duct.old).left ≡ Some input
+        → (Accepts command input → result ≡ 0) × ((refusal : Refusal) → Refuses command input refusal → result ≡ 6) }
+{
+    run(alloc, words, duct)
+}
+
+#[test]
+fn words_and_input_alone_decide(rt: HostRuntime) -> Result<(), Fail> {
+    let cases: [(&[&str], &[u8], u8); 5] = [
+        (&["thin", "7"], &CAPTURE_A, 0),
+        (&["thin", "0"], &CAPTURE_B, 0),
+        (&["thin", "7"], &CAPTURE_B[..507], 6),
+        (&["thin", "7"], &[], 0),
+        (&["thin", "9"], &CAPTURE_A, 2),
+    ];
+    for (row, (texts, input, wanted)) in cases.iter().enumerate() {
+        let words = words_of(rt.alloc(), texts)?;
+        let mut duct = NeverFails::new(rt.alloc(), input, &[1, 2, 3], ROOM)?;
+        assert_eq!(rt;
+            run_surely(rt.alloc(), &words, &mut duct),
+            *wanted,
+            "in row {row}"
+        );
+        assert!(rt; duct.told());
+    }
+    Ok(())
+}
