@@ -1,14 +1,14 @@
 -- A buffer that is filled from a duct, and bytes that are passed over.
-use Rattle.std.proofs.Common.{◌≡◌, ◌<◌, ◌≤◌, ◌+◌, ◌-◌, ℕ, List, [], ◌∷◌, ◌++◌, length, take, drop, refl, sym, ◌∙◌, ap, subst, arith, append_assoc, length-take-le}
+use Rattle.std.proofs.Common.{◌≡◌, ◌<◌, ◌≤◌, ◌+◌, ◌-◌, ℕ, List, [], ◌∷◌, ◌++◌, length, take, drop, refl, sym, ◌∙◌, ap, arith, length-take-le}
 use Rattle.std.proofs.lemmas.List.{append-nil, take_at, length-append, length-drop, drop_all}
 use Rattle.std.proofs.Math.Seq.{take-append-add}
 use borrow.Rule.Slice.PartMut.{put_mid}
 use Rattle.scl_outside.specs.Meaning.{Meaning}
 use Rattle.scl_outside.specs.Events.{Event, Took, Ended, ReadFailed}
 use Rattle.scl_outside.specs.Steps.{Step}
-use Rattle.scl_outside.specs.Effects.{Effects, nothing, only_read, read_until_failed, effect_of, and_then, effects}
-use Rattle.scl_outside.specs.Traces.{Trace, AtReads, IsOver}
-use Rattle.scl_outside.proofs.Traces.{effects_then, effects_more, trace_join, trace_one, at_reads_join, at_reads_then, and_then-nothing}
+use Rattle.scl_outside.specs.Effects.{Effects, nothing, only_read, and_then, effects}
+use Rattle.scl_outside.specs.Traces.{Trace, AtReads}
+use Rattle.scl_outside.proofs.Traces.{effects_then, effects_more, trace_join, trace_one, at_reads_join, at_reads_then}
 use Rattle.capture_frames.specs.Reading.{Below, Fills, Skips}
 use Rattle.capture_frames.specs.declared.filling.Filled.TheVariants.{All, Short, Failed}
 use Rattle.capture_frames.proofs.ReadEffects.{read_none, read_failed, own_read, reads_after}

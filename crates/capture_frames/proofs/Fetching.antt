@@ -1,9 +1,9 @@
 -- Bytes that are taken of a duct, and of which only so many are left.
-use Rattle.std.proofs.Common.{◌≡◌, ◌<◌, ◌≤◌, ◌+◌, ◌-◌, ℕ, List, [], ◌∷◌, ◌++◌, length, take, drop, min, refl, sym, ◌∙◌, ap, arith, length-take-le}
+use Rattle.std.proofs.Common.{◌≡◌, ◌<◌, ◌≤◌, ◌+◌, ℕ, List, ◌++◌, length, take, min, sym, ◌∙◌, arith, length-take-le}
 use Rattle.std.proofs.lemmas.List.{take_at}
 use Rattle.scl_outside.specs.Meaning.{Meaning}
 use Rattle.scl_outside.specs.Events.{Event}
-use Rattle.scl_outside.specs.Effects.{Effects, nothing, only_read, effects}
+use Rattle.scl_outside.specs.Effects.{nothing}
 use Rattle.scl_outside.specs.Traces.{AtReads}
 use Rattle.scl_outside.proofs.Traces.{at_reads_map}
 use Rattle.capture_frames.specs.Reading.{Below, Wishes, Fills, Skips, Takes, Fetches}

@@ -1,5 +1,5 @@
 -- A frame out of the reads of its length and its bytes.
-use Rattle.std.proofs.Common.{suc, zero, Bool, nat_le, ◌==◌, if◌then◌else◌, ◌≡◌, ◌≢◌, ◌<◌, ◌≤◌, ◌+◌, ◌*◌, ◌/◌, ◌%◌, ◌-◌, ◌^◌, ℕ, List, [], ◌∷◌, ◌++◌, length, take, get_or, refl, sym, ◌∙◌, ap, arith, length-take-le, true, false}
+use Rattle.std.proofs.Common.{suc, zero, Bool, nat_le, ◌==◌, if◌then◌else◌, ◌≡◌, ◌<◌, ◌≤◌, ◌+◌, ◌-◌, ◌^◌, ℕ, List, [], ◌∷◌, ◌++◌, length, take, get_or, refl, sym, ◌∙◌, ap, arith, length-take-le, true, false}
 use Rattle.std.proofs.lemmas.List.{append-nil, length-append, take_at}
 use Rattle.std.proofs.Math.Seq.{take-append-add}
 use Rattle.std.proofs.lemmas.Nat.{div-mul-add, mod-mul-add}
@@ -7,8 +7,8 @@ use Rattle.std.proofs.lemmas.Bool.Decides.{nat_tests}
 use Rattle.wire_model.specs.Framing.{frame, IsPartial}
 use Rattle.scl_outside.specs.Meaning.{Meaning}
 use Rattle.scl_outside.specs.Events.{Event}
-use Rattle.scl_outside.specs.Effects.{Effects, nothing, only_read, read_until_failed, and_then, effects}
-use Rattle.scl_outside.specs.Traces.{Trace, AtReads}
+use Rattle.scl_outside.specs.Effects.{Effects, nothing, only_read, and_then, effects}
+use Rattle.scl_outside.specs.Traces.{AtReads}
 use Rattle.scl_outside.proofs.Traces.{effects_then, trace_join, at_reads_then, at_reads_map}
 use Rattle.capture_frames.specs.Reading.{Wishes, InsideFrame, Fetches, ReadsFrame, FrameGives, answer_for, body_length, left_at}
 use Rattle.capture_frames.specs.declared.filling.Fetched.TheVariants.{All, Short, Past, Failed}

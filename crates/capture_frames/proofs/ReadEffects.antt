@@ -1,10 +1,8 @@
 -- Calls that only read, joined.
-use Rattle.std.proofs.Common.{◌≡◌, ℕ, List, [], ◌∷◌, ◌++◌, refl, sym, ◌∙◌, ap, subst}
+use Rattle.std.proofs.Common.{◌≡◌, ℕ, List, [], ◌++◌, sym, ◌∙◌, ap}
 use Rattle.std.proofs.lemmas.List.{append-nil}
-use Rattle.scl_outside.specs.Meaning.{Meaning}
-use Rattle.scl_outside.specs.Events.{Event, Took, Ended, ReadFailed}
-use Rattle.scl_outside.specs.Effects.{Effects, nothing, only_read, read_until_failed, effect_of, and_then, effects}
-use Rattle.scl_outside.proofs.Traces.{effects-append, and_then-nothing}
+use Rattle.scl_outside.specs.Effects.{Effects, nothing, only_read, read_until_failed, and_then}
+use Rattle.scl_outside.proofs.Traces.{and_then-nothing}
 
 -- reads of bytes and then a read that took none
 pub read_none : (bytes : List ℕ) → and_then (only_read bytes) nothing ≡ only_read bytes

@@ -7,3 +7,6 @@ mod writer;
 
 pub use reader::{FrameOut, Frames};
 pub use writer::put_frame;
+
+#[cfg(test)]
+mod tests;

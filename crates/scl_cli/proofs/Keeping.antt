@@ -1,19 +1,17 @@
 -- A datagram that is read is kept by what was read.
-use Rattle.std.proofs.Common.{◌≡◌, ◌<◌, ◌≤◌, ℕ, Bool, true, false, ◌&&◌, List, length, drop, take, refl, sym, ◌∙◌, ap, arith, Result, Ok, Err, nat_le}
-use Rattle.std.specs.Prelude.{slice_range}
+use Rattle.std.proofs.Common.{◌≡◌, ◌≤◌, ℕ, Bool, true, false, ◌&&◌, List, length, refl, ap, arith, nat_le}
 use Rattle.std.proofs.lemmas.Bool.Decides.{nat_tests}
 use Rattle.wire_model.specs.Bytes.{IsBytes}
-use Rattle.wire_model.specs.Rtp.{RtpFields, IsRtp, header_length}
-use Rattle.wire_model.specs.RtpReading.{is_rtp, rtp_fields, payload_end}
+use Rattle.wire_model.specs.Rtp.{RtpFields, IsRtp}
+use Rattle.wire_model.specs.RtpReading.{is_rtp}
 use Rattle.wire_model.specs.Payload.{PayloadFields, IsPayload}
-use Rattle.wire_model.specs.PayloadReading.{is_payload, payload_fields, codestream_start}
-use Rattle.wire_model.specs.Datagram.{rtp_payload, is_well_formed}
+use Rattle.wire_model.specs.PayloadReading.{is_payload, payload_fields}
+use Rattle.wire_model.specs.Datagram.{rtp_payload}
 use Rattle.wire_model.specs.Thinning.{is_kept, is_within}
 use Rattle.wire_model.proofs.RtpLaws.{rtp_is_read_one_way}
 use Rattle.wire_model.proofs.RtpFound.{rtp_reads_as_laid_out}
 use Rattle.wire_model.proofs.PayloadLaws.{payload_is_read_one_way}
 use Rattle.wire_model.proofs.PayloadFound.{payload_reads_as_laid_out}
-use Rattle.wire_model.proofs.DatagramLaws.{bytes-range}
 
 -- a datagram with all its parts is kept by its payload's values
 pub kept_by : (limit : ℕ) (b : List ℕ) (h : RtpFields) (header body : List ℕ) (p : PayloadFields) (codestream : List ℕ) → 1 ≤ length b → length b ≤ 9000

@@ -1,17 +1,14 @@
 -- A run of a command, and what its input decides.
-use Rattle.std.proofs.Common.{◌≡◌, ◌<◌, ◌≤◌, ◌+◌, ◌||◌, ℕ, Bool, true, false, List, [], ◌∷◌, ◌++◌, length, Option, Some, None, IfSome, refl, sym, subst, ◌∙◌, ap, arith, inl, inr, ◌⊎◌}
+use Rattle.std.proofs.Common.{◌≡◌, ◌+◌, ◌||◌, ℕ, Bool, true, false, List, [], ◌∷◌, ◌++◌, length, Option, Some, None, IfSome, refl, sym, subst, ◌∙◌, ap, arith, inr}
 use Rattle.std.specs.List.{AllByRecursion}
 use Rattle.std.proofs.lemmas.List.{append-nil, length-append}
-use Rattle.wire_model.specs.Causes.{Fell, Rose}
-use Rattle.wire_model.specs.Framing.{Splits}
+use Rattle.wire_model.specs.Causes.{Fell}
 use Rattle.wire_model.proofs.FramingLaws.{splits_one_way}
 use Rattle.scl_outside.specs.Meaning.{Meaning}
 use Rattle.scl_outside.specs.Events.{Event, Noted, asks}
-use Rattle.scl_outside.specs.Steps.{Step}
 use Rattle.scl_outside.specs.Effects.{Effects, nothing, only_noted, and_then, effects}
-use Rattle.scl_outside.specs.Traces.{Trace, AtReads, IsOver, Affects}
-use Rattle.scl_outside.specs.Prompt.{Prompt}
-use Rattle.scl_outside.proofs.Traces.{trace_join, trace_one, effects_then, effects_more, at_reads_join, at_reads_none, and_then-nothing}
+use Rattle.scl_outside.specs.Traces.{Trace, IsOver, Affects}
+use Rattle.scl_outside.proofs.Traces.{trace_join, trace_one, effects_then, at_reads_join, at_reads_none, and_then-nothing}
 use Rattle.scl_outside.proofs.Affects.{trace_affects}
 use Rattle.scl_outside.proofs.Prompted.{prompt}
 use Rattle.scl_cli.specs.declared.command.Command.{Command}
@@ -23,9 +20,9 @@ use Rattle.scl_cli.specs.declared.ending.Ending.{Ending}
 use Rattle.scl_cli.specs.declared.ending.Ending.TheVariants.{Done, ReadFault, WriteFault, Refused}
 use Rattle.scl_cli.specs.Commands.{Spells}
 use Rattle.scl_cli.specs.Endings.{status_of, line_of, Notes}
-use Rattle.scl_cli.specs.Made.{made, Accepts, Refuses, RefusesFor, IsReadToEnd}
+use Rattle.scl_cli.specs.Made.{Accepts, Refuses, RefusesFor, IsReadToEnd}
 use Rattle.scl_cli.specs.Runs.{Ran, RunsAs, IsOutput, IsCause, IsMadeSoFar, Decides}
-use Rattle.scl_cli.specs.Performing.{Performs, PerformGives, passed}
+use Rattle.scl_cli.specs.Performing.{Performs, PerformGives}
 
 -- the calls of a note, or none
 pub record Noting (line : List ℕ) (t u : Meaning) : Type 0 where

@@ -1,17 +1,16 @@
 -- A capture thinned so far, frame by frame, and how that ends.
-use Rattle.std.proofs.Common.{◌≡◌, ◌≢◌, ◌<◌, ◌≤◌, ◌+◌, ◌-◌, ◌^◌, ℕ, Bool, true, false, List, [], ◌∷◌, ◌++◌, length, take, refl, sym, subst, ◌∙◌, ap, arith, append_assoc, length-take-le}
-use Rattle.std.specs.Prelude.{filter}
+use Rattle.std.proofs.Common.{◌≡◌, ◌<◌, ◌≤◌, ◌+◌, ◌-◌, ℕ, Bool, true, false, List, [], ◌∷◌, ◌++◌, length, take, refl, sym, subst, ◌∙◌, ap, arith, append_assoc, length-take-le}
 use Rattle.std.specs.List.{AllByRecursion}
 use Rattle.std.proofs.lemmas.List.{append-nil, length-append, take_all}
 use Rattle.std.proofs.lemmas.List.Elements.{filter-append}
 use Rattle.std.proofs.Math.Seq.{take-append-add}
-use Rattle.wire_model.specs.Framing.{frame, framing, IsFramed, IsPartial, Splits, whole_frames}
+use Rattle.wire_model.specs.Framing.{frame, framing, IsFramed, IsPartial}
 use Rattle.wire_model.specs.Thinning.{is_kept, kept}
 use Rattle.wire_model.proofs.FramingLaws.{framing-append, framed-append, whole_frames_of_framing}
 use Rattle.scl_outside.specs.Meaning.{Meaning}
 use Rattle.scl_outside.specs.Events.{Event}
-use Rattle.scl_outside.specs.Effects.{Effects, nothing, only_read, read_until_failed, and_then, effects}
-use Rattle.scl_outside.specs.Traces.{Trace, AtReads, IsOver}
+use Rattle.scl_outside.specs.Effects.{Effects, nothing, and_then, effects}
+use Rattle.scl_outside.specs.Traces.{Trace, AtReads}
 use Rattle.scl_outside.proofs.Traces.{trace_join, effects_then, at_reads_then}
 use Rattle.capture_frames.specs.FramesState.{FramesState}
 use Rattle.capture_frames.specs.Reading.{input_limit, left_at}
@@ -21,7 +20,7 @@ use Rattle.scl_cli.specs.declared.ending.Reason.{Reason}
 use Rattle.scl_cli.specs.declared.ending.Ending.{Ending}
 use Rattle.scl_cli.specs.declared.ending.Ending.TheVariants.{Done, ReadFault, WriteFault, Refused}
 use Rattle.scl_cli.specs.declared.thinning.Turn.TheVariants.{Frame, Stop}
-use Rattle.scl_cli.specs.Made.{made, Accepts, Refuses, RefusesFor, IsReadToEnd}
+use Rattle.scl_cli.specs.Made.{made, Accepts, RefusesFor, IsReadToEnd}
 use Rattle.scl_cli.specs.Performing.{Performs, PerformGives, passed}
 use Rattle.scl_cli.specs.Thinning.{Turns, RefusedGives, Waiting, passed_of}
 

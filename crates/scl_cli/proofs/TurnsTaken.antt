@@ -1,7 +1,7 @@
 -- One frame, read and passed on.
-use Rattle.std.proofs.Common.{◌≡◌, ◌≢◌, ◌<◌, ◌≤◌, ◌+◌, ◌-◌, ◌^◌, ℕ, Bool, true, false, ◌&&◌, nat_le, List, [], ◌∷◌, ◌++◌, length, take, refl, sym, ◌∙◌, ap, arith, length-take-le}
-use Rattle.std.proofs.lemmas.List.{append-nil, length-take}
-use Rattle.wire_model.specs.Framing.{frame, framing, IsFramed, IsPartial}
+use Rattle.std.proofs.Common.{◌≡◌, ◌<◌, ◌≤◌, ◌+◌, ◌^◌, ℕ, Bool, true, false, ◌&&◌, nat_le, List, [], ◌∷◌, ◌++◌, length, take, refl, sym, ◌∙◌, ap, arith, length-take-le}
+use Rattle.std.proofs.lemmas.List.{append-nil}
+use Rattle.wire_model.specs.Framing.{frame, framing}
 use Rattle.std.specs.Prelude.{if◌then◌else◌}
 use Rattle.std.proofs.lemmas.Bool.Decides.{nat_tests}
 use Rattle.wire_model.specs.RtpReading.{is_rtp}
@@ -10,14 +10,13 @@ use Rattle.wire_model.specs.Datagram.{rtp_payload, datagram_of}
 use Rattle.wire_model.specs.Thinning.{is_within}
 use Rattle.scl_outside.specs.Meaning.{Meaning}
 use Rattle.scl_outside.specs.Events.{Event}
-use Rattle.scl_outside.specs.Effects.{Effects, nothing, only_read, only_written, written_until_failed, and_then, effects}
+use Rattle.scl_outside.specs.Effects.{Effects, nothing}
 use Rattle.scl_outside.specs.Traces.{AtReads}
 use Rattle.scl_outside.proofs.Traces.{trace_join, effects_then, at_reads_then, at_reads_map}
 use Rattle.scl_outside.specs.declared.duct.PutOut.TheVariants.{Done as Put, WriteFault as NotPut}
 use Rattle.capture_frames.specs.FramesState.{FramesState}
 use Rattle.capture_frames.specs.Reading.{ReadsFrame, InsideFrame, left_at, input_limit, state_after}
 use Rattle.capture_frames.specs.Writing.{Never}
-use Rattle.capture_frames.specs.declared.reader.FrameOut.{FrameOut}
 use Rattle.capture_frames.specs.declared.reader.FrameOut.TheVariants.{Whole, Empty, Oversize, End, Cut, TooLong, ReadFault as NotRead}
 use Rattle.scl_cli.specs.declared.ending.Reason.TheVariants.{CutFrame, InputTooLong}
 use Rattle.scl_cli.specs.declared.ending.Ending.TheVariants.{Done, ReadFault, WriteFault, Refused}

@@ -1,5 +1,5 @@
 -- What a run of the program does.
-use Rattle.std.specs.Prelude.{◌≡◌, ◌⊎◌, ◌++◌, ℕ, Bool, true, false, List, [], Option, Some, None}
+use Rattle.std.specs.Prelude.{◌≡◌, ◌⊎◌, ◌++◌, ℕ, Bool, true, false, List, [], Some}
 use Rattle.wire_model.specs.Causes.{Rose}
 use Rattle.scl_outside.specs.Meaning.{Meaning}
 use Rattle.scl_outside.specs.Events.{Noted}
@@ -8,8 +8,6 @@ use Rattle.scl_outside.specs.Effects.{Effects}
 use Rattle.scl_outside.specs.Traces.{Affects, IsOver}
 use Rattle.scl_outside.specs.Prompt.{Prompt}
 use Rattle.scl_cli.specs.declared.command.Command.{Command}
-use Rattle.scl_cli.specs.declared.ending.Reason.{Reason}
-use Rattle.scl_cli.specs.declared.ending.Reason.TheVariants.{CutFrame, InputTooLong}
 use Rattle.scl_cli.specs.declared.ending.Refusal.{Refusal}
 use Rattle.scl_cli.specs.declared.ending.Ending.{Ending}
 use Rattle.scl_cli.specs.declared.ending.Ending.TheVariants.{Done, ReadFault, WriteFault, Refused}

@@ -1,5 +1,5 @@
 -- What thinning does, frame by frame.
-use Rattle.std.specs.Prelude.{◌≡◌, ◌≢◌, ◌≤◌, ◌<◌, ◌+◌, ◌++◌, ℕ, true, false, List, [], ◌∷◌, length, take}
+use Rattle.std.specs.Prelude.{◌≡◌, ◌≢◌, ◌≤◌, ◌+◌, ◌++◌, ℕ, true, List, [], ◌∷◌, length, take}
 use Rattle.wire_model.specs.Framing.{frame, framing, IsFramed, IsPartial}
 use Rattle.wire_model.specs.Thinning.{kept}
 use Rattle.scl_outside.specs.Meaning.{Meaning}
@@ -13,7 +13,6 @@ use Rattle.capture_frames.specs.Reading.{input_limit, left_at}
 use Rattle.capture_frames.specs.Writing.{Never}
 use Rattle.scl_cli.specs.declared.ending.Reason.{Reason}
 use Rattle.scl_cli.specs.declared.ending.Reason.TheVariants.{CutFrame, InputTooLong}
-use Rattle.scl_cli.specs.declared.ending.Ending.{Ending}
 use Rattle.scl_cli.specs.declared.ending.Ending.TheVariants.{Done, ReadFault, WriteFault, Refused}
 use Rattle.scl_cli.specs.declared.thinning.Turn.{Turn}
 use Rattle.scl_cli.specs.declared.thinning.Turn.TheVariants.{Frame, Stop}

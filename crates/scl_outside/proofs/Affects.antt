@@ -1,7 +1,7 @@
 -- What a list of calls does to what is told.
-use Rattle.std.proofs.Common.{◌≡◌, ◌≤◌, ◌+◌, ◌^◌, ℕ, List, [], ◌∷◌, ◌++◌, Bool, true, false, ◌||◌, Option, Some, None, refl, sym, ◌∙◌, ap, subst, append_assoc, arith, min}
+use Rattle.std.proofs.Common.{◌≡◌, ℕ, List, [], ◌∷◌, ◌++◌, Bool, true, false, ◌||◌, Option, Some, None, refl, sym, ◌∙◌, ap, subst, append_assoc, arith}
 use Rattle.std.proofs.lemmas.List.{append-nil}
-use Rattle.wire_model.specs.Causes.{Grew, Fell, Rose}
+use Rattle.wire_model.specs.Causes.{Grew, Fell}
 use Rattle.scl_outside.specs.Meaning.{Meaning, Wire}
 use Rattle.scl_outside.specs.Events.{Event, WireEvent, Took, Ended, ReadFailed, Wrote, WriteFailed, Noted, OnWire, taken_by, written_by, noted_by, wire_by, read_fails, write_fails}
 use Rattle.scl_outside.specs.Steps.{Step, Moves, Loses, Counts, WireTrace}

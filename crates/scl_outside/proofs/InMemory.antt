@@ -1,5 +1,5 @@
 -- A read of an object in memory.
-use Rattle.std.proofs.Common.{refl, sym, ap, ◌≡◌, ◌+◌, ℕ, List, [], ◌∷◌, ◌++◌, Bool, true, false, Option, Some, None, IfSome, length, drop, take, length-take-le, nat_le, if◌then◌else◌}
+use Rattle.std.proofs.Common.{refl, ◌≡◌, ◌+◌, ℕ, List, [], ◌∷◌, ◌++◌, true, false, Option, Some, None, length, nat_le, if◌then◌else◌}
 use Rattle.wire_model.specs.Causes.{Grew}
 use Rattle.scl_outside.specs.Meaning.{Meaning}
 use Rattle.scl_outside.specs.Steps.{IsMarkOf, Marks}

@@ -1,14 +1,14 @@
 -- From what held before each read of a list of calls to what its marks say.
-use Rattle.std.proofs.Common.{◌≡◌, ◌≤◌, ◌+◌, ℕ, List, [], ◌∷◌, ◌++◌, Bool, true, false, length, take, drop, Option, Some, None, IfSome, refl, sym, ◌∙◌, ap, subst, append_assoc, arith}
+use Rattle.std.proofs.Common.{◌≡◌, ℕ, List, [], ◌∷◌, ◌++◌, Bool, true, false, length, take, drop, Option, Some, None, IfSome, refl, sym, ◌∙◌, ap, append_assoc}
 use Rattle.std.specs.Prelude.{MatchBool}
 use Rattle.std.specs.List.{AllByRecursion}
 use Rattle.std.proofs.lemmas.List.{append-nil, take_at, drop_at}
-use Rattle.wire_model.specs.Causes.{Grew, Fell}
+use Rattle.wire_model.specs.Causes.{Grew}
 use Rattle.scl_outside.specs.Meaning.{Meaning}
 use Rattle.scl_outside.specs.Events.{Event, asks}
-use Rattle.scl_outside.specs.Steps.{Step, Marks, IsMarkOf}
+use Rattle.scl_outside.specs.Steps.{Marks}
 use Rattle.scl_outside.specs.Effects.{Effects, nothing, effect_of, and_then, effects}
-use Rattle.scl_outside.specs.Traces.{Trace, AtReads, Affects}
+use Rattle.scl_outside.specs.Traces.{Trace, AtReads}
 use Rattle.scl_outside.specs.Prompt.{AtMarks, Prompt}
 use Rattle.scl_outside.specs.declared.duct.Mark.{Mark}
 use Rattle.scl_outside.proofs.Affects.{grew_join, grew_same, step_affects, trace_affects}

@@ -1,6 +1,6 @@
 -- The calls of the outside, each as its caller sees it, with its answer.
 use Rattle.std.specs.Prelude.{ℕ, Bool, true, false, List, [], ◌∷◌, Option, Some, None, ◌==◌}
-use Rattle.scl_outside.specs.Meaning.{Reception, Arrived, NotReady, Closed, Failed, LinkAnswer, Sent, Busy, Broken, Parcel, Reply}
+use Rattle.scl_outside.specs.Meaning.{Reception, Arrived, Failed, LinkAnswer, Sent, Broken, Parcel, Reply}
 
 -- a call of the wire: for a datagram, for sending one to a peer, for a local address, for a peer's address
 pub data WireEvent : Type 0 where

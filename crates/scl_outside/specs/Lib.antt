@@ -6,4 +6,5 @@ pub mod Traces
 pub mod Prompt
 pub mod Answers
 pub mod Record
+pub mod Chunks
 pub mod Memory

@@ -1,10 +1,13 @@
 -- What an object in memory tells.
-use Rattle.std.specs.Prelude.{ℕ, List, [], Option, Some, take, drop}
+use Rattle.std.specs.Prelude.{◌≡◌, ◌-◌, ℕ, List, [], Option, Some, take, drop, length, min}
 use Rattle.scl_outside.specs.declared.memory.DuctMem.{DuctMem}
 use Rattle.scl_outside.specs.declared.memory.NeverFails.{NeverFails}
 use Rattle.scl_outside.specs.declared.duct.Mark.{Mark}
+use Rattle.scl_outside.specs.declared.duct.ReadOut.{ReadOut}
+use Rattle.scl_outside.specs.declared.duct.ReadOut.TheVariants.{Got, End, Failed}
 use Rattle.scl_outside.specs.Meaning.{Meaning, Wire}
 use Rattle.scl_outside.specs.Record.{told_of, room_of}
+use Rattle.scl_outside.specs.Chunks.{chunk_for}
 
 -- no wire: nothing comes in, and nothing is sent
 abbrev pub no_wire : Wire
@@ -57,3 +60,20 @@ reads_to_fail d = d.bad_reads.items
 
 abbrev pub writes_to_fail : DuctMem → List ℕ
 writes_to_fail d = d.bad_writes.items
+
+-- how many bytes each read may give
+abbrev pub chunks_of : DuctMem → List ℕ
+chunks_of d = d.chunks.items
+
+-- the number of the next read, and of the next write
+abbrev pub next_read : DuctMem → ℕ
+next_read d = d.reads
+
+abbrev pub next_write : DuctMem → ℕ
+next_write d = d.writes
+
+-- a read that got bytes got as many as its chunk, the buffer and the rest of the input allow
+abbrev pub GivesChunk : ReadOut → DuctMem → ℕ → Type 0
+GivesChunk (Got n) d room = n ≡ min (min (chunk_for (chunks_of d) (next_read d)) room) (length d.input.items - d.at)
+GivesChunk End d room = Unit {0}
+GivesChunk Failed d room = Unit {0}

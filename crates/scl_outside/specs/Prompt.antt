@@ -1,5 +1,5 @@
 -- What the marks of a call say of the bytes that it had read and written before each of its reads.
-use Rattle.std.specs.Prelude.{ℕ, List, take, drop, length, Option, Some, None}
+use Rattle.std.specs.Prelude.{ℕ, List, take, drop, length, Option, Some}
 use Rattle.std.specs.List.{AllByRecursion}
 use Rattle.wire_model.specs.Causes.{Grew}
 use Rattle.scl_outside.specs.Meaning.{Meaning}

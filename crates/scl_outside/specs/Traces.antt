@@ -1,5 +1,5 @@
 -- Lists of calls: how a function that is generic over a duct says what it did.
-use Rattle.std.specs.Prelude.{◌≡◌, ℕ, Bool, List, [], ◌∷◌, Option, MatchBool, IfSome}
+use Rattle.std.specs.Prelude.{◌≡◌, List, [], ◌∷◌, MatchBool, IfSome}
 use Rattle.wire_model.specs.Causes.{Grew, Fell}
 use Rattle.scl_outside.specs.Meaning.{Meaning}
 use Rattle.scl_outside.specs.Events.{Event, asks}

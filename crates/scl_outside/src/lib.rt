@@ -10,3 +10,6 @@ mod record;
 pub use duct::{Duct, Mark, PutOut, ReadOut, WriteOut};
 pub use memory::{DuctMem, NeverFails};
 pub use record::Record;
+
+#[cfg(test)]
+mod tests;

@@ -1,9 +1,10 @@
 //! Ducts over bytes in memory, which tell all they do as long as it fits the room of their records.
-ghost use Rattle.std.specs.Prelude.{◌≡◌, ◌≤◌, ◌<◌, ◌+◌, ◌++◌, ◌↔◌, ◌∷◌, [], Contains, All, length, take, drop, IfOk, IfSome, IsTrue, IsSome, Some};
+ghost use Rattle.std.specs.Prelude.{◌≡◌, ◌≤◌, ◌<◌, ◌+◌, ◌-◌, ◌^◌, ◌++◌, ◌↔◌, ◌∷◌, [], Contains, All, length, take, drop, IfOk, IfSome, IsTrue, IsSome, Some, min};
 ghost use Rattle.scl_outside.specs.Answers.{FitsBuffer, Writes, read_event};
 ghost use Rattle.scl_outside.specs.Events.{Noted};
 ghost use Rattle.scl_outside.specs.Steps.{Step, IsMarkOf};
 ghost use Rattle.scl_outside.specs.Record.{with_room};
+ghost use Rattle.scl_outside.specs.Chunks.{chunk_for};
 
 use crate::{Duct, Mark, ReadOut, Record, WriteOut};
 use std::alloc::{AllocError, Global};
@@ -13,6 +14,7 @@ fn copy_next(input: &[u8], at: usize, chunk: usize, buf: &mut [u8]) -> usize
     requires within { at ≤ length input.now }
     requires chunk { 1 ≤ chunk }
     requires room { 0 < length buf.old }
+    ensures count { result ≡ min (min chunk (length buf.old)) (length input.now - at) }
     ensures few { result ≤ length buf.new }
     ensures there { at + result ≤ length input.now }
     ensures end { result ≡ 0 → at ≡ length input.now }
@@ -26,7 +28,7 @@ fn copy_next(input: &[u8], at: usize, chunk: usize, buf: &mut [u8]) -> usize
 
 /// How many bytes this read may give: all that fit, where the list of chunks is at its end.
 fn chunk_at(chunks: &[usize], read: usize) -> usize
-    ensures { 1 ≤ result }
+    ensures { result ≡ chunk_for chunks.now read }
 {
     match chunks.get(read) {
         Some(chunk) => (*chunk).max(1),
@@ -53,7 +55,7 @@ pub struct DuctMem {
 }
 
 impl DuctMem {
-    ghost use Rattle.scl_outside.specs.Memory.{meaning_of, memory_meaning, room_for_written, room_for_noted, room_for_marks, reads_to_fail, writes_to_fail};
+    ghost use Rattle.scl_outside.specs.Memory.{meaning_of, memory_meaning, room_for_written, room_for_noted, room_for_marks, reads_to_fail, writes_to_fail, chunks_of, next_read, next_write};
 
     /// A duct over a copy of `input`. Reads and writes are each numbered from 0. Read `i` gives at most `chunks[i]`
     /// bytes, and as many as fit where the list is shorter; a read or a write whose number is in its bad list fails,
@@ -72,6 +74,8 @@ impl DuctMem {
         ensures meaning { IfOk result (λ d. meaning_of d ≡ memory_meaning input.now 0 (Some []) (Some []) (Some []) 0 0) }
         ensures rooms { IfOk result (λ d. (room_for_written d ≡ room) × (room_for_noted d ≡ room) × (room_for_marks d ≡ room)) }
         ensures bad { IfOk result (λ d. (reads_to_fail d ≡ bad_reads.now) × (writes_to_fail d ≡ bad_writes.now)) }
+        ensures chunks { IfOk result (λ d. chunks_of d ≡ chunks.now) }
+        ensures numbers { IfOk result (λ d. (next_read d ≡ 0) × (next_write d ≡ 0)) }
     {
         Ok(DuctMem {
             input: input.to_vec(alloc)?,
@@ -124,7 +128,7 @@ impl DuctMem {
 }
 
 impl Duct for DuctMem {
-    ghost use Rattle.scl_outside.specs.Memory.{meaning_of, room_for_written, room_for_noted, room_for_marks, reads_to_fail, writes_to_fail};
+    ghost use Rattle.scl_outside.specs.Memory.{meaning_of, room_for_written, room_for_noted, room_for_marks, reads_to_fail, writes_to_fail, chunks_of, next_read, next_write, GivesChunk};
 
     ghost meaning = { meaning_of };
 
@@ -132,9 +136,11 @@ impl Duct for DuctMem {
         requires { 0 < length buf.old }
         ensures fits { FitsBuffer result (length buf.old) }
         ensures step { Step (meaning_of self.old) (read_event result buf.new) (meaning_of self.new) }
-        ensures fails { (result ≡ ReadOut.Failed) ↔ Contains (reads_to_fail self.old) self.old.reads }
+        ensures gives { GivesChunk result self.old (length buf.old) }
+        ensures fails { (result ≡ ReadOut.Failed) ↔ Contains (reads_to_fail self.old) (next_read self.old) }
+        ensures numbers { (next_read self.new ≡ min (next_read self.old + 1) (2 ^ 64 - 1)) × (next_write self.new ≡ next_write self.old) }
         ensures told { (m : Mark) × ((meaning_of self.new).marks ≡ with_room (room_for_marks self.old) (meaning_of self.old).marks (m ∷ [])) }
-        ensures plan { (reads_to_fail self.new ≡ reads_to_fail self.old) × (writes_to_fail self.new ≡ writes_to_fail self.old) }
+        ensures plan { (reads_to_fail self.new ≡ reads_to_fail self.old) × (writes_to_fail self.new ≡ writes_to_fail self.old) × (chunks_of self.new ≡ chunks_of self.old) }
         ensures rooms { (room_for_written self.new ≡ room_for_written self.old) × (room_for_noted self.new ≡ room_for_noted self.old) × (room_for_marks self.new ≡ room_for_marks self.old) }
     {
         let mark = self.mark();
@@ -156,10 +162,11 @@ impl Duct for DuctMem {
 
     fn write(&mut self, bytes: &[u8]) -> WriteOut
         ensures step { Writes (meaning_of self.old) result bytes.now (meaning_of self.new) }
-        ensures fails { (result ≡ WriteOut.Failed) ↔ Contains (writes_to_fail self.old) self.old.writes }
+        ensures fails { (result ≡ WriteOut.Failed) ↔ Contains (writes_to_fail self.old) (next_write self.old) }
+        ensures numbers { (next_read self.new ≡ next_read self.old) × (next_write self.new ≡ min (next_write self.old + 1) (2 ^ 64 - 1)) }
         ensures told { result ≡ WriteOut.Done → (meaning_of self.new).written ≡ with_room (room_for_written self.old) (meaning_of self.old).written bytes.now }
         ensures kept { result ≡ WriteOut.Failed → (meaning_of self.new).written ≡ (meaning_of self.old).written }
-        ensures plan { (reads_to_fail self.new ≡ reads_to_fail self.old) × (writes_to_fail self.new ≡ writes_to_fail self.old) }
+        ensures plan { (reads_to_fail self.new ≡ reads_to_fail self.old) × (writes_to_fail self.new ≡ writes_to_fail self.old) × (chunks_of self.new ≡ chunks_of self.old) }
         ensures rooms { (room_for_written self.new ≡ room_for_written self.old) × (room_for_noted self.new ≡ room_for_noted self.old) × (room_for_marks self.new ≡ room_for_marks self.old) }
     {
         let number = self.writes;
@@ -174,8 +181,9 @@ impl Duct for DuctMem {
 
     fn note(&mut self, line: &[u8])
         ensures step { Step (meaning_of self.old) (Noted line.now) (meaning_of self.new) }
+        ensures numbers { (next_read self.new ≡ next_read self.old) × (next_write self.new ≡ next_write self.old) }
         ensures told { (meaning_of self.new).noted ≡ with_room (room_for_noted self.old) (meaning_of self.old).noted line.now }
-        ensures plan { (reads_to_fail self.new ≡ reads_to_fail self.old) × (writes_to_fail self.new ≡ writes_to_fail self.old) }
+        ensures plan { (reads_to_fail self.new ≡ reads_to_fail self.old) × (writes_to_fail self.new ≡ writes_to_fail self.old) × (chunks_of self.new ≡ chunks_of self.old) }
         ensures rooms { (room_for_written self.new ≡ room_for_written self.old) × (room_for_noted self.new ≡ room_for_noted self.old) × (room_for_marks self.new ≡ room_for_marks self.old) }
     {
         self.noted.extend(line);
@@ -191,7 +199,7 @@ pub struct NeverFails {
 }
 
 impl NeverFails {
-    ghost use Rattle.scl_outside.specs.Memory.{sure_meaning, memory_meaning, room_for_written, room_for_noted, room_for_marks};
+    ghost use Rattle.scl_outside.specs.Memory.{sure_meaning, memory_meaning, room_for_written, room_for_noted, room_for_marks, chunks_of};
 
     /// A duct as that of `DuctMem::new`, with no read or write that fails.
     pub fn new(
@@ -204,6 +212,7 @@ impl NeverFails {
         requires room { room ≤ 16777216 }
         ensures meaning { IfOk result (λ d. sure_meaning d ≡ memory_meaning input.now 0 (Some []) (Some []) (Some []) 0 0) }
         ensures rooms { IfOk result (λ d. (room_for_written d.inner ≡ room) × (room_for_noted d.inner ≡ room) × (room_for_marks d.inner ≡ room)) }
+        ensures chunks { IfOk result (λ d. chunks_of d.inner ≡ chunks.now) }
     {
         Ok(NeverFails {
             inner: DuctMem::new(alloc, input, chunks, &[], &[], room)?,

@@ -1,4 +1,4 @@
-use Rattle.std.proofs.Common.{◌≡◌, ◌+◌, min, arith}
+use Rattle.std.proofs.Common.{arith}
 use Rattle.capture_frames.proofs.Fetching.{fetched_all, fetched_past, fetched_short, fetched_failed}
 use Rattle.capture_frames.proofs.filling.fetch.Goals as goal
 

@@ -1,4 +1,4 @@
-use Rattle.std.proofs.Common.{◌≡◌, ◌+◌, [], ◌∷◌, ◌++◌, length, take, ◌-◌, arith}
+use Rattle.std.proofs.Common.{◌≡◌, ◌+◌, [], ◌∷◌, ◌++◌, length, take, arith}
 use Rattle.scl_outside.specs.Events.{Took, Ended, ReadFailed}
 use Rattle.capture_frames.proofs.Buffers.{filled_more, put_rest, short, failed}
 use Rattle.capture_frames.proofs.filling.fill.Goals as goal

@@ -1,4 +1,4 @@
-use Rattle.std.proofs.Common.{◌≡◌, ◌<◌, ◌++◌, length, arith}
+use Rattle.std.proofs.Common.{◌≡◌, ◌++◌, length, arith}
 use Rattle.capture_frames.proofs.Framed.{frame_end, frame_cut, frame_past, frame_failed, frame_whole, frame_short, frame_beyond, frame_broken}
 use Rattle.capture_frames.proofs.reader.read_frame.Goals as goal
 

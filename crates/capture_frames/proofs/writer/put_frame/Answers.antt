@@ -2,7 +2,7 @@ use Rattle.std.proofs.Common.{◌≡◌, ◌++◌, [], ◌∷◌, ℕ, List, len
 use Rattle.std.proofs.lemmas.List.{append-nil}
 use Rattle.wire_model.specs.Bytes.{two_bytes}
 use Rattle.scl_outside.specs.Meaning.{Meaning}
-use Rattle.scl_outside.specs.Events.{Event, Wrote, WriteFailed}
+use Rattle.scl_outside.specs.Events.{Wrote, WriteFailed}
 use Rattle.scl_outside.specs.Steps.{Step}
 use Rattle.scl_outside.specs.Effects.{only_written, written_until_failed}
 use Rattle.scl_outside.specs.declared.duct.PutOut.TheVariants.{Done, WriteFault}

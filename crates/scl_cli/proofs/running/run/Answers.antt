@@ -1,4 +1,3 @@
-use Rattle.std.proofs.Common.{sym, ◌∙◌}
 use Rattle.scl_cli.proofs.Runs.{ran, decided}
 use Rattle.scl_cli.proofs.running.run.Goals as goal
 

@@ -1,5 +1,4 @@
-use Rattle.std.proofs.Common.{◌≡◌, ◌<◌, ◌∙◌, ℕ, Result, Ok, Err, get_or, arith}
-use Rattle.scl_payload.specs.Heads.{read_as}
+use Rattle.std.proofs.Common.{◌∙◌, arith}
 use Rattle.scl_cli.proofs.Keeping.{kept_by, not_payload}
 use Rattle.wire_model.proofs.DatagramLaws.{bytes-range}
 use Rattle.scl_cli.proofs.thinning.keeps.Goals as goal

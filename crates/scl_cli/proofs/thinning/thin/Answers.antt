@@ -1,5 +1,5 @@
-use Rattle.std.proofs.Common.{◌++◌, [], refl}
-use Rattle.scl_cli.proofs.SoFar.{none_yet, one_more, moved, ended}
+use Rattle.std.proofs.Common.{◌++◌}
+use Rattle.scl_cli.proofs.SoFar.{one_more, moved, ended}
 use Rattle.scl_cli.proofs.thinning.thin.Goals as goal
 
 pub loop-ending-preserved : goal.loop-ending-preserved

@@ -1,8 +1,7 @@
-use Rattle.std.proofs.Common.{◌≡◌, ◌⊎◌, ◌∙◌, ℕ, List, refl, inl, inr, arith}
+use Rattle.std.proofs.Common.{◌≡◌, ◌⊎◌, ℕ, List, refl, inl, inr, arith}
 use Rattle.scl_outside.specs.Meaning.{Meaning}
 use Rattle.scl_cli.specs.declared.ending.Ending.{Ending}
 use Rattle.scl_cli.specs.declared.ending.Ending.TheVariants.{Done, ReadFault, WriteFault, Refused}
-use Rattle.scl_cli.specs.declared.command.Command.{Command}
 use Rattle.scl_cli.specs.Endings.{status_of}
 use Rattle.scl_cli.specs.Runs.{Ran, RunsAs}
 use Rattle.scl_cli.proofs.tests.sure.run_surely.Goals as goal
