@@ -2,7 +2,7 @@
 //!
 //! It reads through a buffer, and gathers what is written: what is gathered goes out before the system is asked for
 //! input, and at the end, so nothing is kept back while the program waits.
-ghost use Rattle.std.specs.Prelude.{◌≡◌, ◌⊎◌};
+ghost use Rattle.std.specs.Prelude.{◌≡◌, ◌⊎◌, IfOk};
 
 use scl_outside::{Duct, ReadOut, WriteOut};
 use std::alloc::Global;
@@ -38,7 +38,9 @@ pub struct Machine<I, O: Write + Drop, E> {
 impl<I: Read + Drop, O: Write + Drop, E: Write + Drop> Machine<I, O, E> {
     /// A duct over these, with a buffer of 65,536 bytes behind the reader and before the writer. An error for want of
     /// memory; no later call takes any.
-    pub fn new(alloc: Global, input: I, output: O, notes: E) -> io::Result<Self> {
+    pub fn new(alloc: Global, input: I, output: O, notes: E) -> io::Result<Self>
+        ensures { IfOk result (λ m. (m.read_faults ≡ 0) × (m.write_faults ≡ 0)) }
+    {
         Ok(Machine {
             input: BufReader::with_capacity(alloc, BUFFER_LEN, input)?,
             output: BufWriter::with_capacity(alloc, BUFFER_LEN, output)?,

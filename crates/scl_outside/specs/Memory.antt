@@ -77,3 +77,12 @@ abbrev pub GivesChunk : ReadOut → DuctMem → ℕ → Type 0
 GivesChunk (Got n) d room = n ≡ min (min (chunk_for (chunks_of d) (next_read d)) room) (length d.input.items - d.at)
 GivesChunk End d room = Unit {0}
 GivesChunk Failed d room = Unit {0}
+
+-- what was planned for an object stays: which reads and writes fail, how much a read gives, and the rooms of its records
+pub record KeepsPlan (d e : DuctMem) : Type 0 where
+  pub reads : reads_to_fail e ≡ reads_to_fail d
+  pub writes : writes_to_fail e ≡ writes_to_fail d
+  pub chunks : chunks_of e ≡ chunks_of d
+  pub room_written : room_for_written e ≡ room_for_written d
+  pub room_noted : room_for_noted e ≡ room_for_noted d
+  pub room_marks : room_for_marks e ≡ room_for_marks d

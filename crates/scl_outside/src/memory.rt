@@ -128,7 +128,7 @@ impl DuctMem {
 }
 
 impl Duct for DuctMem {
-    ghost use Rattle.scl_outside.specs.Memory.{meaning_of, room_for_written, room_for_noted, room_for_marks, reads_to_fail, writes_to_fail, chunks_of, next_read, next_write, GivesChunk};
+    ghost use Rattle.scl_outside.specs.Memory.{meaning_of, room_for_written, room_for_noted, room_for_marks, reads_to_fail, writes_to_fail, next_read, next_write, GivesChunk, KeepsPlan};
 
     ghost meaning = { meaning_of };
 
@@ -140,8 +140,7 @@ impl Duct for DuctMem {
         ensures fails { (result ≡ ReadOut.Failed) ↔ Contains (reads_to_fail self.old) (next_read self.old) }
         ensures numbers { (next_read self.new ≡ min (next_read self.old + 1) (2 ^ 64 - 1)) × (next_write self.new ≡ next_write self.old) }
         ensures told { (m : Mark) × ((meaning_of self.new).marks ≡ with_room (room_for_marks self.old) (meaning_of self.old).marks (m ∷ [])) }
-        ensures plan { (reads_to_fail self.new ≡ reads_to_fail self.old) × (writes_to_fail self.new ≡ writes_to_fail self.old) × (chunks_of self.new ≡ chunks_of self.old) }
-        ensures rooms { (room_for_written self.new ≡ room_for_written self.old) × (room_for_noted self.new ≡ room_for_noted self.old) × (room_for_marks self.new ≡ room_for_marks self.old) }
+        ensures plan { KeepsPlan self.old self.new }
     {
         let mark = self.mark();
         self.marks.push(mark);
@@ -166,8 +165,7 @@ impl Duct for DuctMem {
         ensures numbers { (next_read self.new ≡ next_read self.old) × (next_write self.new ≡ min (next_write self.old + 1) (2 ^ 64 - 1)) }
         ensures told { result ≡ WriteOut.Done → (meaning_of self.new).written ≡ with_room (room_for_written self.old) (meaning_of self.old).written bytes.now }
         ensures kept { result ≡ WriteOut.Failed → (meaning_of self.new).written ≡ (meaning_of self.old).written }
-        ensures plan { (reads_to_fail self.new ≡ reads_to_fail self.old) × (writes_to_fail self.new ≡ writes_to_fail self.old) × (chunks_of self.new ≡ chunks_of self.old) }
-        ensures rooms { (room_for_written self.new ≡ room_for_written self.old) × (room_for_noted self.new ≡ room_for_noted self.old) × (room_for_marks self.new ≡ room_for_marks self.old) }
+        ensures plan { KeepsPlan self.old self.new }
     {
         let number = self.writes;
         self.writes = number.saturating_add(1);
@@ -183,8 +181,7 @@ impl Duct for DuctMem {
         ensures step { Step (meaning_of self.old) (Noted line.now) (meaning_of self.new) }
         ensures numbers { (next_read self.new ≡ next_read self.old) × (next_write self.new ≡ next_write self.old) }
         ensures told { (meaning_of self.new).noted ≡ with_room (room_for_noted self.old) (meaning_of self.old).noted line.now }
-        ensures plan { (reads_to_fail self.new ≡ reads_to_fail self.old) × (writes_to_fail self.new ≡ writes_to_fail self.old) × (chunks_of self.new ≡ chunks_of self.old) }
-        ensures rooms { (room_for_written self.new ≡ room_for_written self.old) × (room_for_noted self.new ≡ room_for_noted self.old) × (room_for_marks self.new ≡ room_for_marks self.old) }
+        ensures plan { KeepsPlan self.old self.new }
     {
         self.noted.extend(line);
     }
@@ -242,19 +239,34 @@ impl NeverFails {
 }
 
 impl Duct for NeverFails {
-    ghost use Rattle.scl_outside.specs.Memory.{sure_meaning, room_for_written, room_for_noted, room_for_marks};
+    ghost use Rattle.scl_outside.specs.Memory.{sure_meaning, room_for_written, room_for_noted, room_for_marks, KeepsPlan};
 
     ghost meaning = { sure_meaning };
 
-    fn read(&mut self, buf: &mut [u8]) -> ReadOut {
+    fn read(&mut self, buf: &mut [u8]) -> ReadOut
+        requires { 0 < length buf.old }
+        ensures fits { FitsBuffer result (length buf.old) }
+        ensures step { Step (sure_meaning self.old) (read_event result buf.new) (sure_meaning self.new) }
+        ensures told { (m : Mark) × ((sure_meaning self.new).marks ≡ with_room (room_for_marks self.old.inner) (sure_meaning self.old).marks (m ∷ [])) }
+        ensures plan { KeepsPlan self.old.inner self.new.inner }
+    {
         self.inner.read(buf)
     }
 
-    fn write(&mut self, bytes: &[u8]) -> WriteOut {
+    fn write(&mut self, bytes: &[u8]) -> WriteOut
+        ensures step { Writes (sure_meaning self.old) result bytes.now (sure_meaning self.new) }
+        ensures done { result ≡ WriteOut.Done }
+        ensures told { (sure_meaning self.new).written ≡ with_room (room_for_written self.old.inner) (sure_meaning self.old).written bytes.now }
+        ensures plan { KeepsPlan self.old.inner self.new.inner }
+    {
         self.inner.write(bytes)
     }
 
-    fn note(&mut self, line: &[u8]) {
+    fn note(&mut self, line: &[u8])
+        ensures step { Step (sure_meaning self.old) (Noted line.now) (sure_meaning self.new) }
+        ensures told { (sure_meaning self.new).noted ≡ with_room (room_for_noted self.old.inner) (sure_meaning self.old).noted line.now }
+        ensures plan { KeepsPlan self.old.inner self.new.inner }
+    {
         self.inner.note(line)
     }
 }

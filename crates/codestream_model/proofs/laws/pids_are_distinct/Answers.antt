@@ -1,0 +1,5 @@
+use Rattle.codestream_model.proofs.Numbers.{pids_are_distinct}
+use Rattle.codestream_model.proofs.laws.pids_are_distinct.Goals as goal
+
+pub returns : goal.returns
+returns c = pids_are_distinct

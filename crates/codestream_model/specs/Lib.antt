@@ -1,0 +1,14 @@
+pub mod Values
+pub mod Areas
+pub mod Precincts
+pub mod PacketOrder
+pub mod Bytes
+pub mod Segments
+pub mod HeadRefusals
+pub mod SegmentTests
+pub mod MainHeader
+pub mod RefusedHeader
+pub mod MainHeaderReading
+pub mod HeadLimits
+pub mod GeometryLaws
+pub mod MainHeaderLaws

@@ -1,0 +1,14 @@
+//! What the codestreams of the profile are, after ITU-T T.800 and T.814, as definitions alone.
+//!
+//! `specs/` has the definitions and `proofs/` the laws about them. The functions here are laws: they compute nothing.
+#![tactic(auto)]
+
+mod laws;
+
+pub use laws::{
+    each_component_has_precincts, great_pids_are_found, header_is_not_refused, header_is_one,
+    header_is_read_one_way, header_is_within_limits, header_stands, headers_are_judged,
+    keys_are_distinct, packet_order_is_computed, packet_order_is_one, parts_are_apart,
+    parts_cover_bands, pids_are_dense, pids_are_distinct, quotient_is_rounded_up, refusal_is_one,
+    refusal_is_read_one_way, refusal_stands, strips_are_reached,
+};
