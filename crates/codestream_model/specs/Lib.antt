@@ -12,3 +12,11 @@ pub mod MainHeaderReading
 pub mod HeadLimits
 pub mod GeometryLaws
 pub mod MainHeaderLaws
+pub mod StuffedBits
+pub mod TagTrees
+pub mod HeaderPieces
+pub mod PacketHeader
+pub mod PacketHeaderReading
+pub mod Packet
+pub mod Codestream
+pub mod PacketLaws

@@ -4,6 +4,7 @@
 #![tactic(auto)]
 
 mod laws;
+mod packet_laws;
 
 pub use laws::{
     each_component_has_precincts, great_pids_are_found, header_is_not_refused, header_is_one,
@@ -11,4 +12,10 @@ pub use laws::{
     keys_are_distinct, packet_order_is_computed, packet_order_is_one, parts_are_apart,
     parts_cover_bands, pids_are_dense, pids_are_distinct, quotient_is_rounded_up, refusal_is_one,
     refusal_is_read_one_way, refusal_stands, strips_are_reached,
+};
+pub use packet_laws::{
+    bits_that_are_packed_by_computing_are_packed, empty_packet_is_read, exponent_is_least,
+    headers_are_read, headers_are_read_one_way, headers_are_sound, packed_bits_agree,
+    packed_bits_are_carried, packet_runs_are_read_one_way, packets_are_read_one_way,
+    written_is_header,
 };

@@ -8,8 +8,11 @@ use scl_outside::{Duct, ReadOut, WriteOut};
 use std::alloc::Global;
 use std::io::{self, BufReader, BufWriter, Read, Write};
 
-/// How many bytes a read asks the system for, and how many written bytes are gathered.
-const BUFFER_LEN: usize = 65_536;
+/// How many bytes a read asks the system for.
+const READ_LEN: usize = 65_536;
+
+/// How many written bytes are gathered: more than what one read and a frame begun before it can give.
+const WRITE_LEN: usize = 131_072;
 
 /// The line for a write that failed.
 const WRITE_FAULT: &[u8; 17] = b"scl: write fault\n";
@@ -36,14 +39,14 @@ pub struct Machine<I, O: Write + Drop, E> {
 }
 
 impl<I: Read + Drop, O: Write + Drop, E: Write + Drop> Machine<I, O, E> {
-    /// A duct over these, with a buffer of 65,536 bytes behind the reader and before the writer. An error for want of
+    /// A duct over these, with a buffer of 65,536 bytes behind the reader and one of 131,072 before the writer. An error for want of
     /// memory; no later call takes any.
     pub fn new(alloc: Global, input: I, output: O, notes: E) -> io::Result<Self>
         ensures { IfOk result (λ m. (m.read_faults ≡ 0) × (m.write_faults ≡ 0)) }
     {
         Ok(Machine {
-            input: BufReader::with_capacity(alloc, BUFFER_LEN, input)?,
-            output: BufWriter::with_capacity(alloc, BUFFER_LEN, output)?,
+            input: BufReader::with_capacity(alloc, READ_LEN, input)?,
+            output: BufWriter::with_capacity(alloc, WRITE_LEN, output)?,
             notes,
             read_faults: 0,
             write_faults: 0,

@@ -1,0 +1,130 @@
+-- A codestream of the profile, and the first fault of an input of codestreams (T.800 Annexes A and B).
+use Rattle.std.specs.Prelude.{◌≡◌, ◌≢◌, ◌<◌, ◌≤◌, ◌⊎◌, ◌+◌, ◌-◌, ◌^◌, ◌++◌, ℕ, List, [], ◌∷◌, length, take}
+use Rattle.std.specs.List.{AllByRecursion, flat_map}
+use Rattle.codestream_model.specs.Values.{Head, Place}
+use Rattle.codestream_model.specs.HeadRefusals.{HeadRefusal, Cut as HeadCut}
+use Rattle.codestream_model.specs.MainHeader.{SpellsHead}
+use Rattle.codestream_model.specs.RefusedHeader.{RefusesHead}
+use Rattle.codestream_model.specs.Precincts.{grids}
+use Rattle.codestream_model.specs.PacketOrder.{IsPacketOrder}
+use Rattle.codestream_model.specs.HeaderPieces.{HeaderRefusal}
+use Rattle.codestream_model.specs.PacketHeader.{RefusesHeader}
+use Rattle.codestream_model.specs.Packet.{Content, HasFewBlocks, block_count, SpellsPacket, IsPacketTooLong, NeedsPacketBytes}
+
+-- the bytes are the packets of these places that say this, one after another
+abbrev pub SpellsPackets : Head → List Place → List Content → List ℕ → Type 0
+SpellsPackets h [] [] bytes = bytes ≡ []
+SpellsPackets h (p ∷ places) (x ∷ content) bytes =
+    (front : List ℕ) × (back : List ℕ) × SpellsPacket h p x front × SpellsPackets h places content back × (bytes ≡ front ++ back)
+SpellsPackets h places content bytes = ⊥
+
+-- Psot is 0, or the distance from SOT to EOC, which stands at this place of the codestream (T.800 A.4.2)
+abbrev pub IsPsotRight : Head → ℕ → Type 0
+IsPsotRight h eoc = (h.psot ≡ 0) ⊎ (h.psot ≡ eoc - h.sot)
+
+-- the bytes are a main header, in the packet order a packet of each precinct, and EOC; `content` has what each packet says
+pub record SpellsCodestream (h : Head) (content : List Content) (bytes : List ℕ) : Type 0 where
+  pub head : List ℕ
+  pub places : List Place
+  pub packets : List ℕ
+  pub is_head : SpellsHead h head
+  pub order : IsPacketOrder h places
+  pub are_packets : SpellsPackets h places content packets
+  pub psot : IsPsotRight h (length head + length packets)
+  pub whole : bytes ≡ head ++ (packets ++ 255 ∷ 217 ∷ [])
+
+-- an accepted codestream
+abbrev pub IsCodestream : List ℕ → Type 0
+IsCodestream bytes = (h : Head) × (content : List Content) × SpellsCodestream h content bytes
+
+-- codestreams one after another
+abbrev pub joined : List (List ℕ) → List ℕ
+joined codestreams = flat_map (λ bytes. bytes) codestreams
+
+-- why an input of codestreams is refused
+pub data WalkRefusal : Type 0 where
+  HeadRefused : HeadRefusal → WalkRefusal
+  Cut : WalkRefusal
+  TooManyBlocks : WalkRefusal
+  HeaderRefused : HeaderRefusal → WalkRefusal
+  PacketTooLong : WalkRefusal
+  Psot : WalkRefusal
+  NoEoc : WalkRefusal
+  InputTooLong : WalkRefusal
+  TooManyFrames : WalkRefusal
+
+-- The bytes begin with a main header and, in the packet order, the packets of some precincts. Those of the precincts
+-- `later` are still to come, in `rest`, which stands at the place `at`.
+pub record BeginsCodestream (h : Head) (later : List Place) (at : ℕ) (rest bytes : List ℕ) : Type 0 where
+  pub head : List ℕ
+  pub before : List Place
+  pub content : List Content
+  pub packets : List ℕ
+  pub is_head : SpellsHead h head
+  pub order : IsPacketOrder h (before ++ later)
+  pub are_packets : SpellsPackets h before content packets
+  pub place : at ≡ length head + length packets
+  pub whole : bytes ≡ head ++ (packets ++ rest)
+
+-- a packet should begin at this place of the bytes, and this holds of its header, its precinct and what stands there
+abbrev pub HoldsAtPacket : List ℕ → ℕ → (Head → Place → List ℕ → Type 0) → Type 0
+HoldsAtPacket bytes at Holds = (h : Head) × (p : Place) × (later : List Place) × (rest : List ℕ) × BeginsCodestream h (p ∷ later) at rest bytes × Holds h p rest
+
+-- EOC should stand at this place of the bytes, and this holds of the main header and what stands there
+abbrev pub HoldsAtEoc : List ℕ → ℕ → (Head → List ℕ → Type 0) → Type 0
+HoldsAtEoc bytes at Holds = (h : Head) × (rest : List ℕ) × BeginsCodestream h [] at rest bytes × Holds h rest
+
+-- two bytes that aren't EOC, and what follows them
+abbrev pub IsOther : List ℕ → Type 0
+IsOther bytes = (a : ℕ) × (b : ℕ) × (more : List ℕ) × (bytes ≡ a ∷ b ∷ more) × ((a ≡ 255) × (b ≡ 217) → ⊥)
+
+-- In the bytes, where a codestream should begin, this is the first item that isn't as it should be, at this place: the main
+-- header; at a packet's first byte its number of code-blocks, its header, its length; where EOC should begin Psot, and EOC.
+-- The other causes speak of where bytes end.
+abbrev pub RefusesCodestream : List ℕ → ℕ → WalkRefusal → Type 0
+RefusesCodestream bytes at (HeadRefused why) = RefusesHead bytes at why × (why ≢ HeadCut)
+RefusesCodestream bytes at TooManyBlocks = HoldsAtPacket bytes at (λ h p rest. 65536 < block_count (grids h p))
+RefusesCodestream bytes at (HeaderRefused why) = HoldsAtPacket bytes at (λ h p rest. HasFewBlocks (grids h p) × RefusesHeader (grids h p) rest why)
+RefusesCodestream bytes at PacketTooLong = HoldsAtPacket bytes at (λ h p rest. IsPacketTooLong (grids h p) rest)
+RefusesCodestream bytes at Psot = HoldsAtEoc bytes at (λ h rest. IsPsotRight h at → ⊥)
+RefusesCodestream bytes at NoEoc = HoldsAtEoc bytes at (λ h rest. IsPsotRight h at × IsOther rest)
+RefusesCodestream bytes at Cut = ⊥
+RefusesCodestream bytes at InputTooLong = ⊥
+RefusesCodestream bytes at TooManyFrames = ⊥
+
+-- the bytes end inside a codestream: in its main header, in a packet, or in EOC
+abbrev pub NeedsCodestreamBytes : List ℕ → Type 0
+NeedsCodestreamBytes bytes =
+    (at : ℕ) × (RefusesHead bytes at HeadCut
+    ⊎ (HoldsAtPacket bytes at (λ h p rest. NeedsPacketBytes (grids h p) rest)
+    ⊎ HoldsAtEoc bytes at (λ h rest. IsPsotRight h at × (length rest < 2))))
+
+-- the bytes that are read of an input, behind so many of it: none past 1,099,511,627,776
+abbrev pub readable : ℕ → List ℕ → List ℕ
+readable done rest = take (2 ^ 40 - done) rest
+
+-- What is refused of the bytes behind whole codestreams that take so many bytes: an item that isn't as it should be, or one
+-- that wants a byte behind the last that is read, which is the input's end or a place that an input may not reach.
+abbrev pub RefusesRest : ℕ → List ℕ → ℕ → WalkRefusal → Type 0
+RefusesRest done rest at Cut = NeedsCodestreamBytes rest × (done + length rest ≤ 2 ^ 40) × (at ≡ done + length rest)
+RefusesRest done rest at InputTooLong = NeedsCodestreamBytes (readable done rest) × (2 ^ 40 < done + length rest) × (at ≡ 2 ^ 40)
+RefusesRest done rest at why = (inside : ℕ) × RefusesCodestream (readable done rest) inside why × (at ≡ done + inside)
+
+-- The first fault of an input: a byte behind 65,536 whole codestreams, or what is refused behind fewer.
+pub record Faults (input : List ℕ) (at : ℕ) (why : WalkRefusal) : Type 0 where
+  pub codestreams : List (List ℕ)
+  pub rest : List ℕ
+  pub whole : input ≡ joined codestreams ++ rest
+  pub each : AllByRecursion IsCodestream codestreams
+  pub within : length (joined codestreams) ≤ 2 ^ 40
+  pub follows : 1 ≤ length rest
+  pub fault :
+      ((length codestreams ≡ 65536) × (why ≡ TooManyFrames) × (at ≡ length (joined codestreams)))
+      ⊎ ((length codestreams < 65536) × RefusesRest (length (joined codestreams)) rest at why)
+
+-- an input that is read to its end: whole codestreams, and not too many
+pub record IsInput (input : List ℕ) (codestreams : List (List ℕ)) : Type 0 where
+  pub whole : input ≡ joined codestreams
+  pub each : AllByRecursion IsCodestream codestreams
+  pub few : length codestreams ≤ 65536
+  pub within : length input ≤ 2 ^ 40

@@ -1,0 +1,63 @@
+-- What is promised of the definitions of packets and of their headers.
+use Rattle.std.specs.Prelude.{◌≡◌, ◌<◌, ◌≤◌, ◌^◌, ◌⊎◌, ◌++◌, ℕ, Bool, List, [], ◌∷◌, length, take}
+use Rattle.std.specs.List.{AllByRecursion}
+use Rattle.codestream_model.specs.Values.{Head, Place, Grid, Block}
+use Rattle.codestream_model.specs.Bytes.{IsBytes}
+use Rattle.codestream_model.specs.StuffedBits.{carried, Packs, packing}
+use Rattle.codestream_model.specs.TagTrees.{exponent}
+use Rattle.codestream_model.specs.PacketHeader.{HaveOwnBands, AreBlocks, HeaderBits, SpellsHeader, written_bits}
+use Rattle.codestream_model.specs.PacketHeaderReading.{Done, header_of}
+use Rattle.codestream_model.specs.Precincts.{grids}
+use Rattle.codestream_model.specs.Packet.{Content, SpellsPacket}
+use Rattle.codestream_model.specs.Codestream.{SpellsPackets}
+
+-- bits that are packed by computing are packed
+abbrev pub PackingPacks : Type 0
+PackingPacks = (bits : List Bool) → 1 ≤ length bits → Packs bits (packing bits)
+
+-- the bits that are packed in bytes are the first that the bytes carry
+abbrev pub PackedBitsAreCarried : Type 0
+PackedBitsAreCarried = (bits : List Bool) (bytes : List ℕ) → Packs bits bytes → (more : List Bool) × (carried bytes ≡ bits ++ more)
+
+-- of two runs of bits that are packed in the same bytes one is the front of the other
+abbrev pub PackedBitsAgree : Type 0
+PackedBitsAgree = (bits others : List Bool) (bytes : List ℕ) → Packs bits bytes → Packs others bytes → (more : List Bool) × ((others ≡ bits ++ more) ⊎ (bits ≡ others ++ more))
+
+-- the exponent of a number is the least whose power of two isn't below it
+abbrev pub ExponentIsLeast : Type 0
+ExponentIsLeast = (n : ℕ) → (n ≤ 2 ^ exponent n) × ((e : ℕ) → n ≤ 2 ^ e → exponent n ≤ e)
+
+-- a header is read as it is spelled, whatever follows it
+abbrev pub HeadersAreRead : Type 0
+HeadersAreRead = (gs : List Grid) (blocks : List Block) (header more : List ℕ) → HaveOwnBands gs → SpellsHeader gs blocks header → header_of gs (header ++ more) ≡ Done (length header) blocks
+
+-- and what is read of bytes is a header at their front
+abbrev pub HeadersAreSound : Type 0
+HeadersAreSound = (gs : List Grid) (bytes : List ℕ) (used : ℕ) (blocks : List Block) → IsBytes bytes → HaveOwnBands gs → header_of gs bytes ≡ Done used blocks → SpellsHeader gs blocks (take used bytes)
+
+-- bytes begin with one header at most, and it says one thing; so no header is the front of another
+abbrev pub HeadersAreReadOneWay : Type 0
+HeadersAreReadOneWay =
+    (gs : List Grid) (blocks others : List Block) (header other more rest : List ℕ) → HaveOwnBands gs → SpellsHeader gs blocks header → SpellsHeader gs others other
+    → header ++ more ≡ other ++ rest → (header ≡ other) × (blocks ≡ others)
+
+-- a byte whose first bit is 0 is an empty packet, and is read so
+abbrev pub EmptyPacketIsRead : Type 0
+EmptyPacketIsRead = (gs : List Grid) (byte : ℕ) (more : List ℕ) → byte < 128 → (header_of gs (byte ∷ more) ≡ Done 1 []) × SpellsHeader gs [] (byte ∷ [])
+
+-- bytes begin with one packet of a precinct at most, and it says one thing
+abbrev pub PacketsAreReadOneWay : Type 0
+PacketsAreReadOneWay =
+    (h : Head) (p : Place) (x y : Content) (packet other more rest : List ℕ) → HaveOwnBands (grids h p) → SpellsPacket h p x packet → SpellsPacket h p y other
+    → packet ++ more ≡ other ++ rest → (packet ≡ other) × (x ≡ y)
+
+-- and so with the packets of many precincts
+abbrev pub PacketRunsAreReadOneWay : Type 0
+PacketRunsAreReadOneWay =
+    (h : Head) (places : List Place) (content others : List Content) (packets other more rest : List ℕ) → AllByRecursion (λ p. HaveOwnBands (grids h p)) places
+    → SpellsPackets h places content packets → SpellsPackets h places others other
+    → packets ++ more ≡ other ++ rest → (packets ≡ other) × (content ≡ others)
+
+-- the header that our writer gives code-blocks says them
+abbrev pub WrittenIsHeader : Type 0
+WrittenIsHeader = (gs : List Grid) (blocks : List Block) → HaveOwnBands gs → AreBlocks gs blocks → HeaderBits gs blocks (written_bits gs blocks)

@@ -1,0 +1,58 @@
+//! The laws of the definitions, each on a function that does nothing.
+
+ghost use Rattle.codestream_model.specs.PacketLaws.{PackingPacks, PackedBitsAreCarried, PackedBitsAgree, ExponentIsLeast, EmptyPacketIsRead, HeadersAreRead, HeadersAreSound, HeadersAreReadOneWay, WrittenIsHeader, PacketsAreReadOneWay, PacketRunsAreReadOneWay};
+
+/// Bits that are packed by computing are packed, with pad bits that are 0.
+pub fn bits_that_are_packed_by_computing_are_packed()
+    ensures { PackingPacks }
+{}
+
+/// The bits that are packed in bytes are the first that the bytes carry.
+pub fn packed_bits_are_carried()
+    ensures { PackedBitsAreCarried }
+{}
+
+/// Of two runs of bits that are packed in the same bytes one is the front of the other.
+pub fn packed_bits_agree()
+    ensures { PackedBitsAgree }
+{}
+
+/// The exponent of a number is the least whose power of two isn't below it.
+pub fn exponent_is_least()
+    ensures { ExponentIsLeast }
+{}
+
+/// A byte whose first bit is 0 is an empty packet, whatever follows it, and is read so.
+pub fn empty_packet_is_read()
+    ensures { EmptyPacketIsRead }
+{}
+
+/// A header is read as it is spelled, whatever follows it.
+pub fn headers_are_read()
+    ensures { HeadersAreRead }
+{}
+
+/// What is read of bytes is a header at their front.
+pub fn headers_are_sound()
+    ensures { HeadersAreSound }
+{}
+
+/// Bytes begin with one header at most, and it says one thing.
+pub fn headers_are_read_one_way()
+    ensures { HeadersAreReadOneWay }
+{}
+
+/// The header that our writer gives code-blocks says them.
+pub fn written_is_header()
+    ensures { WrittenIsHeader }
+{}
+
+/// Bytes begin with one packet of a precinct at most, and it says one thing.
+pub fn packets_are_read_one_way()
+    ensures { PacketsAreReadOneWay }
+{}
+
+/// Bytes begin with one run of packets of these precincts at most, and it says one thing.
+pub fn packet_runs_are_read_one_way()
+    ensures { PacketRunsAreReadOneWay }
+{}
