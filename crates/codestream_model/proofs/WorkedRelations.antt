@@ -12,9 +12,9 @@ use Rattle.codestream_model.specs.MainHeader.{SpellsHead}
 use Rattle.codestream_model.specs.RefusedHeader.{RefusesHead}
 use Rattle.codestream_model.specs.MainHeaderReading.{Refused, head_of}
 use Rattle.codestream_model.specs.GeometryLaws.{HasSteps}
-use Rattle.codestream_model.proofs.Headers.{small_header, header_of_two_components}
+use Rattle.codestream_model.proofs.Headers.{small_header, header_of_three, header_of_two_components}
 use Rattle.codestream_model.proofs.WorkedGeometry.{two_components, pid_11}
-use Rattle.codestream_model.proofs.WorkedHeaders.{plain_head, small_header_is_read, header_of_two_components_is_read, sop}
+use Rattle.codestream_model.proofs.WorkedHeaders.{plain_head, small_header_is_read, header_of_three_is_read, header_of_two_components_is_read, sop}
 use Rattle.codestream_model.proofs.Members.{Has, has_contained}
 use Rattle.codestream_model.proofs.Numbers.{has_any}
 use Rattle.codestream_model.proofs.Orders.{packet_order_is_computed}
@@ -42,7 +42,11 @@ refuses_if_read b r fits e =
 pub small_header_spells : SpellsHead (plain_head 0 1 1 15 75 89) small_header
 small_header_spells = spells_if_read small_header (plain_head 0 1 1 15 75 89) (bytes_if_tested small_header refl) small_header_is_read
 
--- that of two components its own,
+-- that of three samples its own,
+pub header_of_three_spells : SpellsHead (plain_head 0 3 1 0 76 90) header_of_three
+header_of_three_spells = spells_if_read header_of_three (plain_head 0 3 1 0 76 90) (bytes_if_tested header_of_three refl) header_of_three_is_read
+
+-- that of two components its own too,
 pub header_of_two_components_spells : SpellsHead two_components header_of_two_components
 unfolding two_components
 header_of_two_components_spells = spells_if_read header_of_two_components two_components (bytes_if_tested header_of_two_components refl) header_of_two_components_is_read

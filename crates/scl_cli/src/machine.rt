@@ -39,8 +39,8 @@ pub struct Machine<I, O: Write + Drop, E> {
 }
 
 impl<I: Read + Drop, O: Write + Drop, E: Write + Drop> Machine<I, O, E> {
-    /// A duct over these, with a buffer of 65,536 bytes behind the reader and one of 131,072 before the writer. An error for want of
-    /// memory; no later call takes any.
+    /// A duct over these, with a buffer of 65,536 bytes behind the reader and one of 131,072 before the writer. An error
+    /// for want of memory; no later call takes any.
     pub fn new(alloc: Global, input: I, output: O, notes: E) -> io::Result<Self>
         ensures { IfOk result (λ m. (m.read_faults ≡ 0) × (m.write_faults ≡ 0)) }
     {

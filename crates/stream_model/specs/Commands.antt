@@ -1,0 +1,75 @@
+-- What each command has written once it has read bytes, and whether it has met the input's end.
+use Rattle.std.specs.Prelude.{◌+◌, ◌-◌, ◌%◌, ◌^◌, ◌==◌, ◌&&◌, ◌||◌, ◌++◌, ℕ, zero, suc, Bool, true, false, List, [], ◌∷◌, length, min, take, drop, slice_index, nat_le, Result, Ok, Err, if◌then◌else◌}
+use Rattle.codestream_model.specs.Values.{Head, Place}
+use Rattle.codestream_model.specs.MainHeaderReading.{head_of, Refused}
+use Rattle.codestream_model.specs.PacketOrder.{pid, packet_order}
+use Rattle.wire_model.specs.Framing.{framing, whole_frames}
+use Rattle.wire_model.specs.Thinning.{kept}
+use Rattle.stream_model.specs.Report.{Precinct, lines, end_line}
+use Rattle.stream_model.specs.Decoder.{found_packet, Whole, Part, Other}
+use Rattle.stream_model.specs.Receiver.{Pick, Receiver, received, flushed, counts_of}
+
+-- what the program is asked to do
+pub data Command : Type 0 where
+  Thin : ℕ → Command
+  Parse : ℕ → ℕ → Command
+  Report : Pick → Command
+
+-- of an input no more than so many bytes count
+abbrev pub counted : List ℕ → List ℕ
+counted read = take 1099511627776 read
+
+-- The packets at the front of the bytes of a codestream behind its main header, as precincts with this stamp; where all of
+-- them stand there and then EOC, as Psot has it, the bytes behind that.
+pub record Walked : Type 0 where
+  pub precincts : List Precinct
+  pub whole : Bool
+  pub rest : List ℕ
+
+abbrev pub stopped : List ℕ → Walked
+stopped rest = record { precincts = []; whole = false; rest = rest }
+
+-- EOC stands at this place of a codestream
+abbrev pub is_end : Head → ℕ → List ℕ → Bool
+is_end h at bytes = ((h.psot == 0) || (h.psot == at - h.sot)) && nat_le 2 (length bytes) && (slice_index bytes 0 == 255) && (slice_index bytes 1 == 217)
+
+abbrev pub walked_end : Head → ℕ → List ℕ → Walked
+walked_end h at bytes = if is_end h at bytes then record { precincts = []; whole = true; rest = drop 2 bytes } else stopped bytes
+
+abbrev pub with_precinct : Precinct → Walked → Walked
+with_precinct x w = record w { precincts = x ∷ w.precincts }
+
+unfoldable pub walk : Head → ℕ → ℕ → List Place → List ℕ → Walked
+walk h stamp at [] bytes = walked_end h at bytes
+walk h stamp at (p ∷ places) bytes = elim (found_packet h p bytes) [
+  | Whole blocks header size ↦ with_precinct
+      (record { stamp = stamp; pid = pid h p; place = p; blocks = blocks; bytes = take (size - header) (drop header bytes) })
+      (walk h stamp (at + size) places (drop size bytes))
+  | Part ↦ stopped bytes
+  | Other ↦ stopped bytes
+]
+
+-- the precincts of codestreams one after another, of at most so many, up to the first fault; the i-th has the stamp
+-- `stamp` + i × `step`
+abbrev pub walk_behind : Result Head Refused → ℕ → List ℕ → Walked
+walk_behind (Err why) stamp bytes = stopped bytes
+walk_behind (Ok h) stamp bytes = walk h stamp h.length (packet_order h) (drop h.length bytes)
+
+unfoldable pub parsed : ℕ → ℕ → ℕ → List ℕ → List Precinct
+parsed zero stamp step bytes = []
+parsed (suc n) stamp step [] = []
+parsed (suc n) stamp step (b ∷ bytes) =
+    (walk_behind (head_of (b ∷ bytes)) stamp (b ∷ bytes)).precincts
+    ++ (if (walk_behind (head_of (b ∷ bytes)) stamp (b ∷ bytes)).whole then parsed n ((stamp + step) % 2 ^ 32) step (walk_behind (head_of (b ∷ bytes)) stamp (b ∷ bytes)).rest else [])
+
+-- what a receiver of a capture writes: the precincts that the rules give, and at the end those that were still held, and the
+-- counts
+abbrev pub reported : Receiver → Bool → List ℕ
+reported r false = lines r.precincts
+reported r true = lines (flushed r).precincts ++ end_line (counts_of (flushed r))
+
+-- what a command has written once it has read these bytes, and met the input's end or not
+abbrev pub made : Command → List ℕ → Bool → List ℕ
+made (Thin limit) read ended = framing (kept limit (whole_frames (counted read)))
+made (Parse stamp step) read ended = lines (parsed (min 65536 (length read)) stamp step (counted read))
+made (Report pick) read ended = reported (received pick (whole_frames (counted read))) ended

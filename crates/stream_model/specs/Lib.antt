@@ -1,0 +1,14 @@
+pub mod Arrivals
+pub mod Reached
+pub mod Stream
+pub mod Cut
+pub mod Laws
+pub mod Report
+pub mod EndCounts
+pub mod Decoder
+pub mod Window
+pub mod Receiver
+pub mod Commands
+pub mod Queue
+pub mod Reading
+pub mod ReceiverLaws

@@ -1,0 +1,19 @@
+//! What a stream of datagrams that carries codestreams is, what of it arrives in time and what is due of it, how codestreams are
+//! cut into datagrams, and what the rules of a receiver make of any datagrams, as definitions alone.
+//!
+//! `specs/` has the definitions and `proofs/` the laws about them and worked examples. The functions here are laws: they compute
+//! nothing.
+#![tactic(auto)]
+
+mod laws;
+mod receiver_laws;
+
+pub use laws::{
+    base_is_least, base_never_falls, below_base_is_decided, body_has_byte, chunks_are_full,
+    closed_stays, cut_is_stream, due_grows, events_are_one, in_time_is_computed, in_time_is_listed,
+    in_time_stays, ordered_is_in_time, parts_are_of_codestreams, payloads_are_whole,
+    precinct_is_found, reached_is_computed, repeat_changes_nothing, stream_is_in_order,
+    stretches_are_runs, thinned_does_not_arrive, thinned_then_picked, whole_is_due,
+    whole_stream_is_due, written_is_datagram,
+};
+pub use receiver_laws::{each_frame_is_counted_once, malformed_frames_are_counted_alone};
