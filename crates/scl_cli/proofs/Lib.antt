@@ -1,3 +1,5 @@
+pub mod HeadText
+pub mod Looking
 pub mod Keeping
 pub mod TurnsTaken
 pub mod SoFar

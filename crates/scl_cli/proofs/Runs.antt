@@ -1,7 +1,15 @@
 -- A run of a command, and what its input decides.
-use Rattle.std.proofs.Common.{◌≡◌, ◌+◌, ◌||◌, ℕ, Bool, true, false, List, [], ◌∷◌, ◌++◌, length, Option, Some, None, IfSome, refl, sym, subst, ◌∙◌, ap, arith, inr}
+use Rattle.std.proofs.Common.{◌≡◌, ◌≢◌, ◌+◌, ◌||◌, ℕ, Bool, true, false, List, [], ◌∷◌, ◌++◌, length, take, drop, append_assoc, Option, Some, None, IfSome, refl, sym, subst, ◌∙◌, ap, arith, inr}
 use Rattle.std.specs.List.{AllByRecursion}
 use Rattle.std.proofs.lemmas.List.{append-nil, length-append}
+use Rattle.std.proofs.lemmas.List.{take-append-drop}
+use Rattle.codestream_model.specs.HeadRefusals.{Cut as NoBytes}
+use Rattle.codestream_model.specs.RefusedHeader.{RefusesHead}
+use Rattle.codestream_model.proofs.HeaderJudged.{header_is_not_refused}
+use Rattle.codestream_model.proofs.Standing.{refusal_stands}
+use Rattle.j2k_markers.specs.declared.head.HeadWhy.{HeadWhy}
+use Rattle.j2k_markers.specs.declared.head.HeadWhy.TheVariants.{Cut}
+use Rattle.j2k_markers.specs.Refusals.{refusal_of}
 use Rattle.wire_model.specs.Causes.{Fell}
 use Rattle.wire_model.proofs.FramingLaws.{splits_one_way}
 use Rattle.scl_outside.specs.Meaning.{Meaning}
@@ -12,15 +20,15 @@ use Rattle.scl_outside.proofs.Traces.{trace_join, trace_one, effects_then, at_re
 use Rattle.scl_outside.proofs.Affects.{trace_affects}
 use Rattle.scl_outside.proofs.Prompted.{prompt}
 use Rattle.scl_cli.specs.declared.command.Command.{Command}
-use Rattle.scl_cli.specs.declared.command.Command.TheVariants.{Thin}
+use Rattle.scl_cli.specs.declared.command.Command.TheVariants.{Thin, Head}
 use Rattle.scl_cli.specs.declared.ending.Reason.{Reason}
-use Rattle.scl_cli.specs.declared.ending.Reason.TheVariants.{CutFrame, InputTooLong}
+use Rattle.scl_cli.specs.declared.ending.Reason.TheVariants.{CutFrame, InputTooLong, Header}
 use Rattle.scl_cli.specs.declared.ending.Refusal.{Refusal}
 use Rattle.scl_cli.specs.declared.ending.Ending.{Ending}
 use Rattle.scl_cli.specs.declared.ending.Ending.TheVariants.{Done, ReadFault, WriteFault, Refused}
 use Rattle.scl_cli.specs.Commands.{Spells}
 use Rattle.scl_cli.specs.Endings.{status_of, line_of, Notes}
-use Rattle.scl_cli.specs.Made.{Accepts, Refuses, RefusesFor, IsReadToEnd}
+use Rattle.scl_cli.specs.Made.{Accepts, Refuses, RefusesCapture, RefusesFront, IsReadToEnd, IsFinished}
 use Rattle.scl_cli.specs.Runs.{Ran, RunsAs, IsOutput, IsCause, IsMadeSoFar, Decides}
 use Rattle.scl_cli.specs.Performing.{Performs, PerformGives}
 
@@ -70,13 +78,18 @@ still_over : (t u : Meaning) → u.left ≡ t.left → IsOver t → IsOver u
 still_over t u e over = rw e over
 
 cause : (command : Command) (ending : Ending) (f : Effects) (line : List ℕ) (s t u : Meaning) → u.left ≡ t.left → Affects s (record f { noted = line }) u → PerformGives command ending f t → IsCause command ending f.read s u
-cause command Done f line s t u left a h = (h.1, still_over t u left h.2)
+cause command Done f line s t u left a h = (h.1, finished command h.2) where
+  finished : (c : Command) → IsFinished c t → IsFinished c u
+  finished (Thin limit) over = still_over t u left over
+  finished Head done = tt
 cause command ReadFault f line s t u left a h = let fault : f.read_failed ≡ true = ap (λ (x : Effects). x.read_failed) h in (rw fault at a.read_faults).1
 cause command WriteFault f line s t u left a h = let fault : f.write_failed ≡ true = ap (λ (x : Effects). x.write_failed) h.2 in (rw fault at a.write_faults).1
 cause command (Refused r) f line s t u left a h = (h.1, to_end r.reason h.2) where
   to_end : (reason : Reason) → IsReadToEnd reason t → IsReadToEnd reason u
   to_end CutFrame over = still_over t u left over
   to_end InputTooLong over = tt
+  to_end (Header Cut) over = still_over t u left over
+  to_end (Header why) over = tt
 
 -- a command that was performed, and then how it ended
 pub performed : (command : Command) (s t u : Meaning) (ending : Ending) (es : List Event) → Performs command s t ending es → Notes (line_of ending) t u → RunsAs command s u ending
@@ -95,6 +108,7 @@ performed command s t u ending es h note =
       output = output command ending (effects es) t h.gives;
       cause = cause command ending (effects es) (line_of ending) s t u n.left affects h.gives;
       prompt = prompt (IsMadeSoFar command) s u (es ++ n.events) trace (at_reads_join _ nothing es n.events h.prompt (at_reads_none _ _ n.events n.asks_nothing));
+      enough = h.enough;
     }
 
 -- what was read to its end is the input
@@ -110,9 +124,18 @@ over_rest (Some now) rest f n = let e : now ≡ rest = cc in sym e ∙ f
 -- an input isn't both accepted and refused
 not_both : (command : Command) (input : List ℕ) (r : Refusal) → Accepts command input → Refuses command input r → ⊥
 not_both (Thin limit) input r a h = by_reason r.reason h where
-  by_reason : (reason : Reason) → RefusesFor reason input r.at → ⊥
+  by_reason : (reason : Reason) → RefusesCapture reason input r.at → ⊥
   by_reason CutFrame (short, (frames, rest, splits, some, at)) = some (splits_one_way input frames a.1.0 rest [] splits a.1.1).1
   by_reason InputTooLong (long, at) = let few = a.0 in omega arith
+  by_reason (Header why) h = absurd h
+not_both Head input r a h = by_reason r.reason h where
+  by_reason : (reason : Reason) → RefusesFront reason input r.at → ⊥
+  by_reason CutFrame h = absurd h
+  by_reason InputTooLong h = absurd h
+  by_reason (Header why) h =
+      let whole : take a.0.length input ++ drop a.0.length input ≡ input = take-append-drop a.0.length input in
+      let R : List ℕ → Type 0 = λ l. RefusesHead l r.at (refusal_of why) in
+      header_is_not_refused a.0 (take a.0.length input) (drop a.0.length input) r.at (refusal_of why) a.1 (subst R (sym whole) h)
 
 -- of what was read to its end, the rest is nothing
 read_whole : (s t : Meaning) (f : Effects) (input rest : List ℕ) → Affects s f t → IsOver t → s.left ≡ Some input → t.left ≡ Some rest → f.read ≡ input
@@ -121,15 +144,46 @@ read_whole s t f input rest a over sl tl = sym (whole_input s.left t.left input 
 -- a refusal of what was read is one of the input
 refuses_input : (command : Command) (s t : Meaning) (f : Effects) (input rest : List ℕ) (r : Refusal) → Affects s f t → Refuses command f.read r → IsReadToEnd r.reason t → s.left ≡ Some input → t.left ≡ Some rest → Refuses command input r
 refuses_input (Thin limit) s t f input rest r a h end sl tl = by_reason r.reason h end where
-  by_reason : (reason : Reason) → RefusesFor reason f.read r.at → IsReadToEnd reason t → RefusesFor reason input r.at
-  by_reason CutFrame h over = let R : List ℕ → Type 0 = λ l. RefusesFor CutFrame l r.at in subst R (read_whole s t f input rest a over sl tl) h
+  by_reason : (reason : Reason) → RefusesCapture reason f.read r.at → IsReadToEnd reason t → RefusesCapture reason input r.at
+  by_reason CutFrame h over = let R : List ℕ → Type 0 = λ l. RefusesCapture CutFrame l r.at in subst R (read_whole s t f input rest a over sl tl) h
+  by_reason (Header why) h over = absurd h
   by_reason InputTooLong (long, at) over = ((let e : length input ≡ length f.read + length rest = ap length (whole_input s.left t.left input rest f.read a.left sl tl) ∙ length-append f.read rest in omega arith), at)
+refuses_input Head s t f input rest r a h end sl tl = by_reason r.reason h end where
+  all : input ≡ f.read ++ rest
+  all = whole_input s.left t.left input rest f.read a.left sl tl
+
+  stands : (why : HeadWhy) → refusal_of why ≢ NoBytes → RefusesHead f.read r.at (refusal_of why) → RefusesHead input r.at (refusal_of why)
+  stands why other h = let R : List ℕ → Type 0 = λ l. RefusesHead l r.at (refusal_of why) in subst R (sym all) (refusal_stands f.read rest r.at (refusal_of why) other h)
+
+  by_reason : (reason : Reason) → RefusesFront reason f.read r.at → IsReadToEnd reason t → RefusesFront reason input r.at
+  by_reason CutFrame h over = absurd h
+  by_reason InputTooLong h over = absurd h
+  by_reason (Header Cut) h over = let R : List ℕ → Type 0 = λ l. RefusesHead l r.at NoBytes in subst R (read_whole s t f input rest a over sl tl) h
+  by_reason (Header why) h over = stands why (λ e. absurd (cc)) h
+
+-- an input whose front was accepted isn't refused
+accepted_front : (command : Command) (s t : Meaning) (f : Effects) (input rest : List ℕ) (r : Refusal) → Affects s f t → Accepts command f.read → IsFinished command t → s.left ≡ Some input → t.left ≡ Some rest → Refuses command input r → ⊥
+accepted_front (Thin limit) s t f input rest r a is over sl tl no_more =
+    let R : List ℕ → Type 0 = λ l. Accepts (Thin limit) l in
+    not_both (Thin limit) input r (subst R (read_whole s t f input rest a over sl tl) is) no_more
+accepted_front Head s t f input rest r a is over sl tl no_more = by_reason r.reason no_more where
+  by_reason : (reason : Reason) → RefusesFront reason input r.at → ⊥
+  by_reason CutFrame h = absurd h
+  by_reason InputTooLong h = absurd h
+  by_reason (Header why) h =
+      let front : List ℕ = take is.0.length f.read in
+      let more : List ℕ = drop is.0.length f.read in
+      let whole : input ≡ front ++ (more ++ rest) =
+      whole_input s.left t.left input rest f.read a.left sl tl
+      ∙ (ap (λ (l : List ℕ). l ++ rest) (sym (take-append-drop is.0.length f.read)) ∙ append_assoc front more rest) in
+      let R : List ℕ → Type 0 = λ l. RefusesHead l r.at (refusal_of why) in
+      header_is_not_refused is.0 front (more ++ rest) r.at (refusal_of why) is.1 (subst R whole h)
 
 -- the input decides
 pub decides : (command : Command) (s t : Meaning) (ending : Ending) (status : ℕ) → status ≡ status_of ending → RunsAs command s t ending → Decides command s t status
 decides command s t Done status is h = λ input rest sl tl read write. (
   (λ accepted. is),
-  (λ r refused. let R : List ℕ → Type 0 = λ l. Accepts command l in absurd (not_both command input r (subst R (read_whole s t h.effects input rest h.affects h.cause.1 sl tl) h.cause.0) refused)),
+  (λ r refused. absurd (accepted_front command s t h.effects input rest r h.affects h.cause.0 h.cause.1 sl tl refused)),
 )
 decides command s t ReadFault status is h = λ input rest sl tl read write. ((λ accepted. absurd (read h.cause)), (λ r refused. absurd (read h.cause)))
 decides command s t WriteFault status is h = λ input rest sl tl read write. ((λ accepted. absurd (write h.cause)), (λ r refused. absurd (write h.cause)))

@@ -15,12 +15,12 @@ use Rattle.scl_outside.proofs.Traces.{trace_join, effects_then, at_reads_then}
 use Rattle.capture_frames.specs.FramesState.{FramesState}
 use Rattle.capture_frames.specs.Reading.{input_limit, left_at}
 use Rattle.scl_cli.specs.declared.command.Command.TheVariants.{Thin}
-use Rattle.scl_cli.specs.declared.ending.Reason.TheVariants.{CutFrame, InputTooLong}
+use Rattle.scl_cli.specs.declared.ending.Reason.TheVariants.{CutFrame, InputTooLong, Header}
 use Rattle.scl_cli.specs.declared.ending.Reason.{Reason}
 use Rattle.scl_cli.specs.declared.ending.Ending.{Ending}
 use Rattle.scl_cli.specs.declared.ending.Ending.TheVariants.{Done, ReadFault, WriteFault, Refused}
 use Rattle.scl_cli.specs.declared.thinning.Turn.TheVariants.{Frame, Stop}
-use Rattle.scl_cli.specs.Made.{made, Accepts, RefusesFor, IsReadToEnd}
+use Rattle.scl_cli.specs.Made.{made, Accepts, RefusesCapture, IsReadToEnd}
 use Rattle.scl_cli.specs.Performing.{Performs, PerformGives, passed}
 use Rattle.scl_cli.specs.Thinning.{Turns, RefusedGives, Waiting, passed_of}
 
@@ -139,13 +139,13 @@ ends limit t u before after WriteFault es fs s so n =
     subst P (sym all) (rest, whole ∙ (ap (λ (l : List ℕ). framing (kept limit so.frames) ++ l) n.gives.5 ∙ sym (append_assoc (framing (kept limit so.frames)) front rest)), refl)
 ends limit t u before after (Refused r) es fs s so n = refused r.reason r.at n.gives where
   refused : (reason : Reason) (place : ℕ) → RefusedGives reason place before.offset (effects fs) u
-      → (effects (es ++ fs) ≡ passed (effects (es ++ fs)).read (made (Thin limit) (effects (es ++ fs)).read false)) × RefusesFor reason (effects (es ++ fs)).read place × IsReadToEnd reason u
+      → (effects (es ++ fs) ≡ passed (effects (es ++ fs)).read (made (Thin limit) (effects (es ++ fs)).read false)) × RefusesCapture reason (effects (es ++ fs)).read place × IsReadToEnd reason u
   refused CutFrame place (bytes, here, some, partial, room, is, over) =
       let at = so.place in
       let within = so.within in
       let all : effects (es ++ fs) ≡ passed (framing so.frames ++ bytes) (framing (kept limit so.frames) ++ []) = effects_then es fs _ _ so.done is in
       let short : length (framing so.frames ++ bytes) ≤ input_limit = omega (arith, length-append (framing so.frames) bytes) in
-      let R : Effects → Type 0 = λ g. RefusesFor CutFrame g.read place in (
+      let R : Effects → Type 0 = λ g. RefusesCapture CutFrame g.read place in (
         by_read limit (effects (es ++ fs)) _ _ false all (made_of limit so.frames bytes false partial short ∙ sym (append-nil (framing (kept limit so.frames)))),
         subst R (sym all) (short, (so.frames, bytes, record { whole = refl; each = so.each; partial = partial }, some, here ∙ at)),
         over,
@@ -158,11 +158,12 @@ ends limit t u before after (Refused r) es fs s so n = refused r.reason r.at n.g
       let front : length (take (left_at before.offset) bytes) ≡ left_at before.offset = length-take-le (left_at before.offset) bytes (omega arith) in
       let long : input_limit < length (framing so.frames ++ bytes) = omega (arith, length-append (framing so.frames) bytes) in
       let same : made (Thin limit) (framing so.frames ++ bytes) false ≡ framing (kept limit so.frames) = rw (cut, whole_frames_of_framing so.frames (take (left_at before.offset) bytes) partial) refl in
-      let R : Effects → Type 0 = λ g. RefusesFor InputTooLong g.read place in (
+      let R : Effects → Type 0 = λ g. RefusesCapture InputTooLong g.read place in (
         by_read limit (effects (es ++ fs)) _ _ false all (same ∙ sym (append-nil (framing (kept limit so.frames)))),
         subst R (sym all) (long, here),
         tt,
       )
+  refused (Header why) place h = absurd h
 
 -- the end of a run
 pub ended : (limit : ℕ) (s t u : Meaning) (before after : FramesState) (ending : Ending) (es fs : List Event) → SoFar limit s t before.offset es → Turns limit before after t u (Stop ending) fs → Performs (Thin limit) s u ending (es ++ fs)
@@ -170,4 +171,5 @@ ended limit s t u before after ending es fs so n = record {
   trace = trace_join s t u es fs so.trace n.trace;
   prompt = at_reads_then (Waiting (left_at before.offset)) (IsMade limit) es fs so.prompt (waiting limit s t before.offset es so) n.within;
   gives = ends limit t u before after ending es fs s so n;
+  enough = tt;
 }

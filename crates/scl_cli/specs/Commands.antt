@@ -1,11 +1,12 @@
 -- The grammar of a command line.
 use Rattle.std.specs.Prelude.{◌≡◌, ◌≤◌, ℕ, List, [], ◌∷◌, codes, decimal}
 use Rattle.scl_cli.specs.declared.command.Command.{Command}
-use Rattle.scl_cli.specs.declared.command.Command.TheVariants.{Thin}
+use Rattle.scl_cli.specs.declared.command.Command.TheVariants.{Thin, Head}
 
 -- the words spell this command; a number is its decimal digits
 abbrev pub Spells : Command → List (List ℕ) → Type 0
 Spells (Thin limit) words = (limit ≤ 7) × (words ≡ codes "thin" ∷ decimal limit ∷ [])
+Spells Head words = words ≡ codes "head" ∷ []
 
 -- the words aren't in the grammar
 abbrev pub SpellsNothing : List (List ℕ) → Type 0

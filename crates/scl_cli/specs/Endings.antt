@@ -3,15 +3,10 @@ use Rattle.std.specs.Prelude.{◌≡◌, ℕ, List, [], ◌∷◌, ◌++◌, cod
 use Rattle.scl_outside.specs.Meaning.{Meaning}
 use Rattle.scl_outside.specs.Events.{Noted}
 use Rattle.scl_outside.specs.Steps.{Step}
-use Rattle.scl_cli.specs.declared.ending.Reason.{Reason}
-use Rattle.scl_cli.specs.declared.ending.Reason.TheVariants.{CutFrame, InputTooLong}
+use Rattle.scl_cli.specs.Reasons.{reason_text}
 use Rattle.scl_cli.specs.declared.ending.Refusal.{Refusal}
 use Rattle.scl_cli.specs.declared.ending.Ending.{Ending}
 use Rattle.scl_cli.specs.declared.ending.Ending.TheVariants.{Done, ReadFault, WriteFault, Refused}
-
-abbrev pub reason_text : Reason → List ℕ
-reason_text CutFrame = codes "cut frame"
-reason_text InputTooLong = codes "input too long"
 
 -- the line for an input that is refused: the offset and the reason
 abbrev pub refusal_line : Refusal → List ℕ

@@ -1,6 +1,9 @@
 pub mod Commands
+pub mod Reasons
 pub mod Endings
+pub mod HeadLines
 pub mod Made
 pub mod Performing
 pub mod Thinning
+pub mod Showing
 pub mod Runs

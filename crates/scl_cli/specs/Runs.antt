@@ -5,7 +5,7 @@ use Rattle.scl_outside.specs.Meaning.{Meaning}
 use Rattle.scl_outside.specs.Events.{Noted}
 use Rattle.scl_outside.specs.Steps.{Step}
 use Rattle.scl_outside.specs.Effects.{Effects}
-use Rattle.scl_outside.specs.Traces.{Affects, IsOver}
+use Rattle.scl_outside.specs.Traces.{Affects}
 use Rattle.scl_outside.specs.Prompt.{Prompt}
 use Rattle.scl_cli.specs.declared.command.Command.{Command}
 use Rattle.scl_cli.specs.declared.ending.Refusal.{Refusal}
@@ -13,7 +13,7 @@ use Rattle.scl_cli.specs.declared.ending.Ending.{Ending}
 use Rattle.scl_cli.specs.declared.ending.Ending.TheVariants.{Done, ReadFault, WriteFault, Refused}
 use Rattle.scl_cli.specs.Commands.{Spells, SpellsNothing}
 use Rattle.scl_cli.specs.Endings.{status_of, line_of, words_line}
-use Rattle.scl_cli.specs.Made.{made, Accepts, Refuses, IsReadToEnd}
+use Rattle.scl_cli.specs.Made.{made, Accepts, Refuses, IsReadToEnd, IsFinished, IsEnough}
 
 -- what was written by the end, of what was read: all that is made of it, or a front of that before a write that failed
 abbrev pub IsOutput : Command → Ending → List ℕ → List ℕ → Type 0
@@ -22,9 +22,9 @@ IsOutput command ReadFault read written = written ≡ made command read false
 IsOutput command WriteFault read written = (ended : Bool) × (rest : List ℕ) × (made command read ended ≡ written ++ rest)
 IsOutput command (Refused refusal) read written = written ≡ made command read false
 
--- why the run ended so: the input was read to its end and is accepted; a count of faults rose; the input is refused
+-- why the run ended so: the input is accepted and was read as far as the job needs; a count of faults rose; the input is refused
 abbrev pub IsCause : Command → Ending → List ℕ → Meaning → Meaning → Type 0
-IsCause command Done read s t = Accepts command read × IsOver t
+IsCause command Done read s t = Accepts command read × IsFinished command t
 IsCause command ReadFault read s t = Rose s.read_faults t.read_faults
 IsCause command WriteFault read s t = Rose s.write_faults t.write_faults
 IsCause command (Refused refusal) read s t = Refuses command read refusal × IsReadToEnd refusal.reason t
@@ -42,6 +42,7 @@ pub record RunsAs (command : Command) (s t : Meaning) (ending : Ending) : Type 0
   pub output : IsOutput command ending effects.read effects.written
   pub cause : IsCause command ending effects.read s t
   pub prompt : Prompt (IsMadeSoFar command) s t
+  pub enough : IsEnough command effects.read
 
 -- a run of the program: the words aren't in the grammar, and all it does is to say so; or it runs their command
 abbrev pub Ran : List (List ℕ) → Meaning → Meaning → ℕ → Type 0

@@ -12,7 +12,7 @@ use Rattle.capture_frames.specs.FramesState.{FramesState}
 use Rattle.capture_frames.specs.Reading.{input_limit, left_at}
 use Rattle.capture_frames.specs.Writing.{Never}
 use Rattle.scl_cli.specs.declared.ending.Reason.{Reason}
-use Rattle.scl_cli.specs.declared.ending.Reason.TheVariants.{CutFrame, InputTooLong}
+use Rattle.scl_cli.specs.declared.ending.Reason.TheVariants.{CutFrame, InputTooLong, Header}
 use Rattle.scl_cli.specs.declared.ending.Ending.TheVariants.{Done, ReadFault, WriteFault, Refused}
 use Rattle.scl_cli.specs.declared.thinning.Turn.{Turn}
 use Rattle.scl_cli.specs.declared.thinning.Turn.TheVariants.{Frame, Stop}
@@ -43,6 +43,7 @@ RefusedGives CutFrame at offset f t =
     (bytes : List ℕ) × (at ≡ offset) × (bytes ≢ []) × IsPartial bytes × (length bytes ≤ left_at offset) × (f ≡ only_read bytes) × IsOver t
 RefusedGives InputTooLong at offset f t =
     (bytes : List ℕ) × (at ≡ input_limit) × (length bytes ≡ left_at offset + 1) × IsPartial (take (left_at offset) bytes) × (f ≡ only_read bytes)
+RefusedGives (Header why) at offset f t = ⊥
 
 -- what was done with one frame, by the answer
 abbrev pub TurnGives : ℕ → FramesState → FramesState → Turn → Effects → Meaning → Type 0

@@ -10,6 +10,8 @@ use crate::Words;
 pub enum Command {
     /// `thin T`: pass on the frames of a capture that serve a receiver with the limit T, 0 to 7.
     Thin(u8),
+    /// `head`: show the main header at the front of the input.
+    Head,
 }
 
 /// The command that the words spell.
@@ -17,7 +19,33 @@ pub fn command_of(words: &Words) -> Option<Command>
     ensures spelt { IfSome result (λ command. Spells command words.now) }
     ensures all { (command : Command) → Spells command words.now → result ≡ Some command }
 {
-    if words.len() != 2 || words.get(0) != "thin" {
+    match words.len() {
+        1 => command_alone(words),
+        2 => command_to_thin(words),
+        _ => None,
+    }
+}
+
+/// The command that one word spells.
+fn command_alone(words: &Words) -> Option<Command>
+    requires { length words.now ≡ 1 }
+    ensures spelt { IfSome result (λ command. Spells command words.now) }
+    ensures all { (command : Command) → Spells command words.now → result ≡ Some command }
+{
+    if words.get(0) == "head" {
+        Some(Command::Head)
+    } else {
+        None
+    }
+}
+
+/// The command that two words spell.
+fn command_to_thin(words: &Words) -> Option<Command>
+    requires { length words.now ≡ 2 }
+    ensures spelt { IfSome result (λ command. Spells command words.now) }
+    ensures all { (command : Command) → Spells command words.now → result ≡ Some command }
+{
+    if words.get(0) != "thin" {
         return None;
     }
     let limit = limit_of(words.get(1))?;

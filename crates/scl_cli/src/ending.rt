@@ -2,10 +2,12 @@
 ghost use Rattle.std.specs.Prelude.{◌≡◌, ◌++◌, codes, decimal};
 ghost use Rattle.scl_outside.specs.Events.{Noted};
 ghost use Rattle.scl_outside.specs.Steps.{Step};
-ghost use Rattle.scl_cli.specs.Endings.{reason_text, refusal_line, status_of, line_of, Notes};
+ghost use Rattle.scl_cli.specs.Endings.{refusal_line, status_of, line_of, Notes};
 
+use crate::reasons::push_reason;
 use arrayvec::ArrayString;
 use itoa::Buffer;
+use j2k_markers::HeadWhy;
 use scl_outside::Duct;
 
 /// Why an input is refused.
@@ -15,6 +17,8 @@ pub enum Reason {
     CutFrame,
     /// It has more than 1,099,511,627,776 bytes.
     InputTooLong,
+    /// It doesn't begin with a main header.
+    Header(HeadWhy),
 }
 
 /// Why an input is refused, and where: an offset from its start, in bytes.
@@ -37,16 +41,6 @@ pub enum Ending {
     Refused(Refusal),
 }
 
-/// The reason's words.
-fn text_of(reason: Reason) -> &'static str
-    ensures { result.now ≡ reason_text reason }
-{
-    match reason {
-        Reason::CutFrame => "cut frame",
-        Reason::InputTooLong => "input too long",
-    }
-}
-
 /// The line for an input that is refused.
 fn line_for(refusal: Refusal) -> ArrayString<64>
     ensures { result.bytes ≡ refusal_line refusal }
@@ -56,7 +50,7 @@ fn line_for(refusal: Refusal) -> ArrayString<64>
     line.push_str("scl: refused at ");
     line.push_str(digits.format(refusal.at));
     line.push_str(": ");
-    line.push_str(text_of(refusal.reason));
+    push_reason(&mut line, refusal.reason);
     line.push_str("\n");
     line
 }

@@ -3,7 +3,10 @@
 
 mod command;
 mod ending;
+mod head_lines;
+mod heading;
 mod machine;
+mod reasons;
 mod running;
 mod thinning;
 mod words;

@@ -9,6 +9,7 @@ ghost use Rattle.scl_cli.specs.Runs.{Ran, Decides};
 use crate::Words;
 use crate::command::{Command, command_of};
 use crate::ending::{Ending, finish};
+use crate::heading::head;
 use crate::thinning::thin;
 use scl_outside::Duct;
 use std::alloc::Global;
@@ -19,6 +20,7 @@ fn perform<D: Duct>(command: Command, out: &mut D) -> Ending
 {
     match command {
         Command::Thin(limit) => thin(limit, out),
+        Command::Head => head(out),
     }
 }
 

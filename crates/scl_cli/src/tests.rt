@@ -7,6 +7,7 @@ use std::process::Abort;
 use std::test::Fail;
 
 mod captures;
+mod headers;
 mod hostile;
 mod machines;
 mod sure;
@@ -50,7 +51,7 @@ fn words_outside_the_grammar_are_named_and_nothing_else_is_done(
         &["thin", "7", "7"],
         &["Thin", "7"],
         &["thin 7"],
-        &["head"],
+        &["head", "7"],
         &["--help"],
     ];
     for (row, texts) in cases.iter().enumerate() {

@@ -1,0 +1,17 @@
+pub mod Pairs
+pub mod Judges
+pub mod Lists
+pub mod Sums
+pub mod SoundFields
+pub mod Contents
+pub mod Limits
+pub mod Keeping
+pub mod Additions
+pub mod Refusing
+pub mod SoundSegments
+pub mod Stepping
+pub mod Starting
+pub mod Judgements
+pub mod Lengths
+pub mod Wholes
+pub mod Wanting

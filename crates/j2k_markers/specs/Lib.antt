@@ -1,0 +1,7 @@
+pub mod Fields
+pub mod Refusals
+pub mod Parts
+pub mod Sound
+pub mod Before
+pub mod Walking
+pub mod Layout

@@ -1,0 +1,4 @@
+pub mod Apart
+pub mod InOrder
+pub mod Parts
+pub mod Precincts

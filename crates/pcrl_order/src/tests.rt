@@ -1,0 +1,98 @@
+//! Packet orders that were worked out by hand.
+use super::*;
+use j2k_markers::read_head;
+use precinct_geometry::{Geometry, Place};
+use std::alloc::{AllocError, Global};
+use std::process::Abort;
+use std::test::Fail;
+
+/// An image from (3, 5) to (19, 13) in two components, the second with half the columns; one decomposition level, and
+/// precincts of 8 x 8.
+const TWO_COMPONENTS: [u8; 97] = [
+    0xFF, 0x4F, 0xFF, 0x51, 0x00, 0x2C, 0x40, 0x00, 0x00, 0x00, 0x00, 0x13, 0x00, 0x00, 0x00, 0x0D,
+    0x00, 0x00, 0x00, 0x03, 0x00, 0x00, 0x00, 0x05, 0x00, 0x00, 0x00, 0x13, 0x00, 0x00, 0x00, 0x0D,
+    0x00, 0x00, 0x00, 0x00, 0x00, 0x00, 0x00, 0x00, 0x00, 0x02, 0x07, 0x01, 0x01, 0x07, 0x02, 0x01,
+    0xFF, 0x50, 0x00, 0x08, 0x00, 0x02, 0x00, 0x00, 0x00, 0x00, 0xFF, 0x52, 0x00, 0x0E, 0x01, 0x03,
+    0x00, 0x01, 0x00, 0x01, 0x04, 0x04, 0x40, 0x01, 0x33, 0x33, 0xFF, 0x5C, 0x00, 0x07, 0x40, 0x48,
+    0x48, 0x48, 0x48, 0xFF, 0x90, 0x00, 0x0A, 0x00, 0x00, 0x00, 0x00, 0x00, 0x00, 0x00, 0x01, 0xFF,
+    0x93,
+];
+
+/// An image of the one sample at (1, 0), with one decomposition level.
+const ODD_SAMPLE: [u8; 92] = [
+    0xFF, 0x4F, 0xFF, 0x51, 0x00, 0x29, 0x40, 0x00, 0x00, 0x00, 0x00, 0x02, 0x00, 0x00, 0x00, 0x01,
+    0x00, 0x00, 0x00, 0x01, 0x00, 0x00, 0x00, 0x00, 0x00, 0x00, 0x00, 0x02, 0x00, 0x00, 0x00, 0x01,
+    0x00, 0x00, 0x00, 0x00, 0x00, 0x00, 0x00, 0x00, 0x00, 0x01, 0x07, 0x01, 0x01, 0xFF, 0x50, 0x00,
+    0x08, 0x00, 0x02, 0x00, 0x00, 0x00, 0x00, 0xFF, 0x52, 0x00, 0x0C, 0x00, 0x03, 0x00, 0x01, 0x00,
+    0x01, 0x04, 0x04, 0x40, 0x01, 0xFF, 0x5C, 0x00, 0x07, 0x40, 0x48, 0x48, 0x48, 0x48, 0xFF, 0x90,
+    0x00, 0x0A, 0x00, 0x00, 0x00, 0x00, 0x00, 0x00, 0x00, 0x01, 0xFF, 0x93,
+];
+
+/// The geometry of the image that a header describes.
+fn geometry_of(rt: &impl Abort, header: &[u8]) -> Geometry {
+    let Ok(head) = read_head(header) else {
+        panic!(rt; "the header is refused");
+    };
+    Geometry::new(head)
+}
+
+/// A precinct: its number, its component, its resolution, its number there, and its anchor's y and x.
+type Line = (u32, u8, u8, u32, u64, u64);
+
+/// The lines of an image's precincts, in order.
+fn lines_of(rt: &impl Abort, alloc: Global, geometry: &Geometry) -> Result<Vec<Line>, AllocError> {
+    let list = OrderList::build(alloc, geometry)?;
+    let mut lines = Vec::new(alloc);
+    for place in list.places() {
+        assert!(rt; geometry.holds(*place));
+        let (y, x) = geometry.anchor(*place);
+        lines.push((geometry.pid(*place), place.c, place.r, place.k, y, x))?;
+    }
+    Ok(lines)
+}
+
+#[test]
+fn precincts_stand_in_packet_order(rt: HostRuntime) -> Result<(), Fail> {
+    let expected: [Line; 13] = [
+        (0, 0, 0, 0, 5, 3),
+        (4, 0, 1, 0, 5, 3),
+        (1, 1, 0, 0, 5, 3),
+        (3, 1, 1, 0, 5, 3),
+        (6, 0, 1, 1, 5, 8),
+        (2, 0, 0, 1, 5, 16),
+        (8, 0, 1, 2, 5, 16),
+        (5, 1, 1, 1, 5, 16),
+        (10, 0, 1, 3, 8, 3),
+        (7, 1, 1, 2, 8, 3),
+        (12, 0, 1, 4, 8, 8),
+        (14, 0, 1, 5, 8, 16),
+        (9, 1, 1, 3, 8, 16),
+    ];
+    let geometry = geometry_of(&rt, &TWO_COMPONENTS);
+    assert_eq!(rt;
+        lines_of(&rt, rt.alloc(), &geometry)?.as_slice(),
+        expected.as_slice()
+    );
+    Ok(())
+}
+
+#[test]
+fn numbers_name_their_precincts_or_none(rt: HostRuntime) -> Result<(), Fail> {
+    let geometry = geometry_of(&rt, &TWO_COMPONENTS);
+    assert_eq!(rt; geometry.of_pid(14), Some(Place { c: 0, r: 1, k: 5 }));
+    assert_eq!(rt; geometry.of_pid(11), None);
+    Ok(())
+}
+
+#[test]
+fn an_empty_resolution_has_no_precinct(rt: HostRuntime) -> Result<(), Fail> {
+    let geometry = geometry_of(&rt, &ODD_SAMPLE);
+    assert_eq!(rt;
+        lines_of(&rt, rt.alloc(), &geometry)?.as_slice(),
+        [(0, 0, 1, 0, 0, 1)].as_slice()
+    );
+    let place = Place { c: 0, r: 1, k: 0 };
+    assert!(rt; geometry.holds(place));
+    assert_eq!(rt; geometry.blocks(place), 1);
+    Ok(())
+}

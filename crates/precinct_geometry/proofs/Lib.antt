@@ -1,0 +1,4 @@
+pub mod Corners
+pub mod Counting
+pub mod Quotients
+pub mod ThreeBands

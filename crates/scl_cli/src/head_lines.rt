@@ -1,0 +1,89 @@
+//! The lines that show the values of a main header.
+ghost use Rattle.std.specs.Prelude.{◌≡◌, ◌≤◌, ◌+◌, ◌*◌, ◌++◌, length, decimal};
+ghost use Rattle.std.specs.List.{flat_map, range_with_len};
+ghost use Rattle.scl_cli.specs.HeadLines.{line, area_line, component_line, precinct_line, head_lines};
+
+use arrayvec::ArrayString;
+use itoa::Buffer;
+use j2k_markers::Head;
+
+/// Lines of a main header: one of its area, four with two numbers at most each, four with three and sixteen with three.
+type Lines = ArrayString<2048>;
+
+/// Puts a text and a number behind the lines.
+fn push_number(lines: &mut Lines, before: &str, n: u32)
+    requires { length lines.old.bytes + length before.now + 20 ≤ 2048 }
+    ensures text { lines.new.bytes ≡ lines.old.bytes ++ before.now ++ decimal n }
+    ensures size { length lines.new.bytes ≤ length lines.old.bytes + length before.now + 20 }
+{
+    let mut digits = Buffer::new();
+    lines.push_str(before);
+    lines.push_str(digits.format(n));
+}
+
+/// Puts a line behind the lines: a word, and numbers with a blank before each.
+fn push_line(lines: &mut Lines, word: &str, numbers: &[u32])
+    requires { length lines.old.bytes + length word.now + 21 * length numbers.now + 1 ≤ 2048 }
+    ensures text { lines.new.bytes ≡ lines.old.bytes ++ line word.now numbers.now }
+    ensures size { length lines.new.bytes ≤ length lines.old.bytes + length word.now + 21 * length numbers.now + 1 }
+{
+    lines.push_str(word);
+    for n in numbers {
+        push_number(lines, " ", *n);
+    }
+    lines.push_str("\n");
+}
+
+/// Puts the line of the image's area behind the lines.
+fn push_area(lines: &mut Lines, head: &Head)
+    requires { length lines.old.bytes ≤ 100 }
+    ensures text { lines.new.bytes ≡ lines.old.bytes ++ area_line head.now }
+    ensures size { length lines.new.bytes ≤ length lines.old.bytes + 110 }
+{
+    let (x0, y0, x1, y1) = head.area();
+    push_number(lines, "AREA x0=", x0);
+    push_number(lines, " y0=", y0);
+    push_number(lines, " x1=", x1);
+    push_number(lines, " y1=", y1);
+    lines.push_str("\n");
+}
+
+/// Puts the lines of the components behind the lines.
+fn push_components(lines: &mut Lines, head: &Head)
+    requires { length lines.old.bytes ≤ 300 }
+    ensures text { lines.new.bytes ≡ lines.old.bytes ++ flat_map (component_line head.now) (range_with_len 0 (length head.now.steps)) }
+    ensures size { length lines.new.bytes ≤ length lines.old.bytes + 272 }
+{
+    for c in 0..head.components() {
+        let (x, y) = head.step(c);
+        push_line(lines, "COMP", &[u32::from(c), u32::from(x), u32::from(y)]);
+    }
+}
+
+/// Puts the lines of the resolutions behind the lines.
+fn push_precincts(lines: &mut Lines, head: &Head)
+    requires { length lines.old.bytes ≤ 600 }
+    ensures text { lines.new.bytes ≡ lines.old.bytes ++ flat_map (precinct_line head.now) (range_with_len 0 (head.now.levels + 1)) }
+    ensures size { length lines.new.bytes ≤ length lines.old.bytes + 1088 }
+{
+    for r in 0..head.levels() + 1 {
+        let (x, y) = head.precinct(r);
+        push_line(lines, "PREC", &[u32::from(r), u32::from(x), u32::from(y)]);
+    }
+}
+
+/// The lines of a main header.
+pub fn lines_of(head: &Head) -> Lines
+    ensures { result.bytes ≡ head_lines head.now }
+{
+    let mut lines = Lines::new();
+    push_area(&mut lines, head);
+    push_line(&mut lines, "LEVELS", &[u32::from(head.levels())]);
+    let (x, y) = head.block();
+    push_line(&mut lines, "BLOCK", &[u32::from(x), u32::from(y)]);
+    push_components(&mut lines, head);
+    push_precincts(&mut lines, head);
+    push_line(&mut lines, "PSOT", &[head.psot()]);
+    push_line(&mut lines, "LENGTH", &[head.length()]);
+    lines
+}

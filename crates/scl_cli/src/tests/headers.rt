@@ -1,0 +1,143 @@
+//! Main headers shown, and refused at their places.
+use super::*;
+
+/// The main header of a picture of one pixel: COD stands at 55, QCD at 69 and SOT at 75.
+const HEADER: &[u8] = &[
+    0xFF, 0x4F, 0xFF, 0x51, 0x00, 0x29, 0x40, 0x00, 0x00, 0x00, 0x00, 0x01, 0x00, 0x00, 0x00, 0x01,
+    0x00, 0x00, 0x00, 0x00, 0x00, 0x00, 0x00, 0x00, 0x00, 0x00, 0x00, 0x01, 0x00, 0x00, 0x00, 0x01,
+    0x00, 0x00, 0x00, 0x00, 0x00, 0x00, 0x00, 0x00, 0x00, 0x01, 0x07, 0x01, 0x01, 0xFF, 0x50, 0x00,
+    0x08, 0x00, 0x02, 0x00, 0x00, 0x00, 0x00, 0xFF, 0x52, 0x00, 0x0C, 0x00, 0x03, 0x00, 0x01, 0x00,
+    0x00, 0x04, 0x04, 0x40, 0x01, 0xFF, 0x5C, 0x00, 0x04, 0x40, 0x48, 0xFF, 0x90, 0x00, 0x0A, 0x00,
+    0x00, 0x00, 0x00, 0x00, 0x00, 0x00, 0x01, 0xFF, 0x93,
+];
+
+/// The header with the bytes from one place up to another replaced, and so many bytes 0 behind it.
+fn changed(
+    alloc: Global,
+    from: usize,
+    to: usize,
+    put: &[u8],
+    behind: usize,
+) -> Result<Vec<u8>, AllocError> {
+    let mut bytes = Vec::new(alloc);
+    for (at, byte) in HEADER.iter().enumerate() {
+        if at == from {
+            bytes.extend_from_slice(put)?;
+        }
+        if at < from || at >= to {
+            bytes.push(*byte)?;
+        }
+    }
+    for _ in 0..behind {
+        bytes.push(0)?;
+    }
+    Ok(bytes)
+}
+
+/// A comment, PLT and TLM, which are passed over.
+const PASSED_OVER: [u8; 27] = [
+    0xFF, 0x64, 0x00, 0x08, 0x00, 0x01, 0x6D, 0x61, 0x64, 0x65, 0xFF, 0x5D, 0x00, 0x05, 0x00, 0x40,
+    0x48, 0xFF, 0x55, 0x00, 0x08, 0x00, 0x40, 0x00, 0x00, 0x00, 0x12,
+];
+
+#[test]
+fn a_main_header_is_shown_in_lines(rt: HostRuntime) -> Result<(), Fail> {
+    let input = changed(rt.alloc(), 75, 75, &PASSED_OVER, 100)?;
+    let (status, duct) = run_over(rt.alloc(), &["head"], &input, &[], &[])?;
+    let lines =
+        "AREA x0=0 y0=0 x1=1 y1=1\nLEVELS 0\nBLOCK 6 6\nCOMP 0 1 1\nPREC 0 15 15\nPSOT 0\nLENGTH 116\n";
+    assert_eq!(rt; status, 0);
+    assert_eq!(rt; duct.written(), lines.as_bytes());
+    assert_eq!(rt; duct.noted(), [].as_slice());
+    Ok(())
+}
+
+#[test]
+fn a_faulty_header_is_refused_at_its_place(rt: HostRuntime) -> Result<(), Fail> {
+    let cases: [(usize, usize, &[u8], &str); 17] = [
+        (0, 89, &[], "scl: refused at 0: cut\n"),
+        (0, 89, &[0], "scl: refused at 1: cut\n"),
+        (0, 89, &[0xFF, 0x4F, 0], "scl: refused at 3: cut\n"),
+        (60, 89, &[], "scl: refused at 60: cut\n"),
+        (0, 89, &[0, 0], "scl: refused at 0: no soc\n"),
+        (
+            0,
+            89,
+            &[0xFF, 0x4F, 0xFF, 0x52],
+            "scl: refused at 2: no siz\n",
+        ),
+        (40, 42, &[0, 0], "scl: refused at 2: components\n"),
+        (59, 60, &[2], "scl: refused at 55: sop\n"),
+        (59, 60, &[4], "scl: refused at 55: eph\n"),
+        (60, 61, &[2], "scl: refused at 55: order\n"),
+        (73, 74, &[0x42], "scl: refused at 69: quant\n"),
+        (45, 55, &[], "scl: refused at 65: missing ff50\n"),
+        (
+            75,
+            75,
+            &[0xFF, 0x5C, 0, 4, 0x40, 0x48],
+            "scl: refused at 75: twice ff5c\n",
+        ),
+        (
+            75,
+            75,
+            &[0xFF, 0x53, 0, 5, 0, 0],
+            "scl: refused at 75: marker ff53\n",
+        ),
+        (
+            0,
+            89,
+            &[0xFF, 0x4F, 0xFF, 0x51, 0, 0x28],
+            "scl: refused at 2: length\n",
+        ),
+        (
+            0,
+            89,
+            &[0xFF, 0x4F, 0xFF, 0x51, 0, 0x29],
+            "scl: refused at 6: cut\n",
+        ),
+        (
+            75,
+            89,
+            &[0xFF, 0x64, 0xFF, 0xFF],
+            "scl: refused at 79: cut\n",
+        ),
+    ];
+    for (row, (from, to, put, line)) in cases.iter().enumerate() {
+        let input = changed(rt.alloc(), *from, *to, put, 0)?;
+        let (status, duct) = run_over(rt.alloc(), &["head"], &input, &[], &[])?;
+        assert_eq!(rt; status, 6, "in row {row}");
+        assert_eq!(rt; duct.written(), [].as_slice());
+        assert_eq!(rt; duct.noted(), line.as_bytes(), "in row {row}");
+    }
+    Ok(())
+}
+
+#[test]
+fn a_header_ends_within_8192_bytes(rt: HostRuntime) -> Result<(), Fail> {
+    let cases = [
+        (8_191, "scl: refused at 8191: cut\n"),
+        (8_192, "scl: refused at 8192: header past 8192\n"),
+        (9_000, "scl: refused at 8192: header past 8192\n"),
+    ];
+    for (len, line) in cases {
+        let input = changed(rt.alloc(), 75, 89, &[0xFF, 0x64, 0xFF, 0xFF], len - 79)?;
+        let (status, duct) = run_over(rt.alloc(), &["head"], &input, &[], &[])?;
+        assert_eq!(rt; status, 6, "of {len} bytes");
+        assert_eq!(rt; duct.noted(), line.as_bytes(), "of {len} bytes");
+    }
+    Ok(())
+}
+
+#[test]
+fn a_header_meets_faults(rt: HostRuntime) -> Result<(), Fail> {
+    let (status, duct) = run_over(rt.alloc(), &["head"], HEADER, &[0], &[])?;
+    assert_eq!(rt; status, 3);
+    assert_eq!(rt; duct.written(), [].as_slice());
+    assert_eq!(rt; duct.noted(), b"scl: read fault\n".as_slice());
+    let (status, duct) = run_over(rt.alloc(), &["head"], HEADER, &[], &[0])?;
+    assert_eq!(rt; status, 4);
+    assert_eq!(rt; duct.written(), [].as_slice());
+    assert_eq!(rt; duct.noted(), b"scl: write fault\n".as_slice());
+    Ok(())
+}

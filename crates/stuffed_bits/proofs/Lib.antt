@@ -1,0 +1,5 @@
+pub mod StandLemmas
+pub mod ReadLemmas
+pub mod NumberLemmas
+pub mod PackedLemmas
+pub mod PenLemmas

@@ -1,0 +1,266 @@
+-- What a reader of bits has read after each of its answers, and that the answers are the bits of the bytes.
+use Rattle.std.proofs.Common.{◌≡◌, ◌≢◌, ◌<◌, ◌≤◌, ◌+◌, ◌-◌, ◌/◌, ◌%◌, ◌^◌, ◌==◌, ◌&&◌, ℕ, zero, suc, Bool, true, false, List, [], ◌∷◌, ◌++◌, length, take, drop, slice_index, nat_le, nat_lt, Option, Some, IsSome, refl, sym, ◌∙◌, ap, subst, inl, inr, arith, append_assoc, if◌then◌else◌}
+use Rattle.std.specs.List.{slice_range}
+use Rattle.std.proofs.lemmas.Bool.{leb-false, le-leb, lt-leb}
+use Rattle.std.proofs.lemmas.Bool.Decides.{eqb_tells}
+use Rattle.std.proofs.lemmas.List.{append-nil, length-append, drop_at, get_or-drop, nil_from_length}
+use Rattle.codestream_model.specs.Bytes.{IsBytes}
+use Rattle.codestream_model.specs.StuffedBits.{IsStuffed, number_bits, width_after, carried_after, carried, sound_after, packed_bits, closing_after, Packs, bytes_of_bits}
+use Rattle.codestream_model.proofs.PackingLemmas.{last_after, carried-append, width_cases}
+use Rattle.codestream_model.proofs.HeaderLemmas.{stuffed_tail, bytes_reached}
+use Rattle.codestream_model.proofs.OneWayLemmas.{same_front}
+use Rattle.stuffed_bits.specs.Stands.{last_from, last_of, before_next, StandIn}
+use Rattle.stuffed_bits.specs.Hand.{Hand}
+use Rattle.stuffed_bits.specs.BitsRead.{HasRead, answer_after, next_of, first_of_hand}
+use Rattle.stuffed_bits.specs.declared.bit_in.BitOut.TheVariants.{Bit, Need, Stuffed}
+use Rattle.stuffed_bits.specs.declared.bit_in.Next.TheVariants.{Byte, Need as NoByte, Stuffed as Broken}
+use Rattle.stuffed_bits.proofs.StandLemmas.{same_last, before_last, last-push, last_of-push, bytes-push, stuffed-push, stuffed_less, Begun, none_begun, begins, takes}
+use Rattle.stuffed_bits.proofs.PackedLemmas.{packs_where_closed, reach_of}
+
+-- the first of the bits of a number
+pub first_bit : (n v : ℕ) → 0 < n → number_bits n v ≡ (v / 2 ^ (n - 1) % 2 == 1) ∷ number_bits (n - 1) v
+unfolding number_bits
+first_bit zero v h = absurd (omega arith)
+first_bit (suc n) v h = let e : suc n - 1 ≡ n = omega arith in rw e refl
+
+-- a bit of the byte in hand
+pub reads_on : (bits : List Bool) (bytes : List ℕ) (h : Hand) → 0 < h.left → HasRead bits bytes h
+    → HasRead (bits ++ first_of_hand h ∷ []) bytes (record h { left = h.left - 1 })
+reads_on bits bytes h some r =
+    let v = before_next h.last in
+    let s : StandIn bits (first_of_hand h ∷ number_bits (h.left - 1) v) bytes = let P : List Bool → Type 0 = λ l. StandIn bits l bytes in subst P (first_bit h.left v some) r.stands in
+    record {
+      last = r.last;
+      stands = takes bits (first_of_hand h) (number_bits (h.left - 1) v) bytes (none_begun bits (first_of_hand h ∷ number_bits (h.left - 1) v) bytes s);
+    }
+
+-- a byte carries some bits
+pub width_some : (before : ℕ) → 0 < width_after before
+width_some before = elim (width_cases before) [ inl t ↦ omega (arith, t.1) | inr t ↦ omega (arith, t.1) ]
+
+-- what is in hand behind a byte that was just taken
+abbrev pub took : ℕ → ℕ → Hand
+took before b = record { last = Some b; left = width_after before }
+
+-- the first bit of the next byte
+pub reads_next : (bits : List Bool) (bytes : List ℕ) (h : Hand) (b : ℕ) → h.left ≡ 0 → b < 256 → (before_next h.last ≡ 255 → b < 128) → HasRead bits bytes h
+    → HasRead (bits ++ first_of_hand (took (before_next h.last) b) ∷ []) (bytes ++ b ∷ []) (record (took (before_next h.last) b) { left = width_after (before_next h.last) - 1 })
+unfolding number_bits
+reads_next bits bytes h b none small low r =
+    let same : before_next h.last ≡ last_from 0 bytes = ap before_next r.last ∙ before_last bytes in
+    let w = width_after (before_next h.last) in
+    let s : StandIn bits [] bytes = rw none at r.stands in
+    let low_of : last_from 0 bytes ≡ 255 → b < 128 = λ e. low (same ∙ e) in
+    let t : Begun bits (number_bits (width_after (last_from 0 bytes)) b) (bytes ++ b ∷ []) = begins bits bytes b s small low_of in
+    let P : ℕ → Type 0 = λ k. Begun bits (number_bits (width_after k) b) (bytes ++ b ∷ []) in
+    let u : Begun bits (number_bits w b) (bytes ++ b ∷ []) = subst P (sym same) t in
+    let Q : List Bool → Type 0 = λ l. Begun bits l (bytes ++ b ∷ []) in
+    let v : Begun bits (first_of_hand (took (before_next h.last) b) ∷ number_bits (w - 1) b) (bytes ++ b ∷ []) = subst Q (first_bit w b (width_some (before_next h.last))) u in
+    record {
+      last = sym (last_of-push bytes b);
+      stands = takes bits (first_of_hand (took (before_next h.last) b)) (number_bits (w - 1) b) (bytes ++ b ∷ []) v;
+    }
+
+-- stuffed bytes are sound, whatever follows them
+sound_of_front : (before : ℕ) (bytes more : List ℕ) → (before ≡ 255 → slice_index bytes 0 < 128) → IsStuffed bytes → sound_after before (bytes ++ more) ≡ bytes ++ sound_after (last_from before bytes) more
+unfolding sound_after last_from
+sound_of_front before [] more first stuffed = refl
+sound_of_front before (b ∷ bytes) more first stuffed =
+    let sound : ((before == 255) && nat_le 128 b) ≡ false = elim (eqb_tells before 255) [
+      | inl t ↦ let low : b < 128 = first t.1 in rw (t.0, lt-leb 128 b low) refl
+      | inr t ↦ rw t.0 refl
+    ] in
+    rw sound (ap (λ (l : List ℕ). b ∷ l) (sound_of_front b bytes more (stuffed 0) (stuffed_tail b bytes stuffed)))
+
+-- what is sound of the bytes that were taken and of those that follow
+sound_of_all : (bits : List Bool) (bytes more : List ℕ) (h : Hand) → HasRead bits bytes h → sound_after 0 (bytes ++ more) ≡ bytes ++ sound_after (before_next h.last) more
+sound_of_all bits bytes more h r =
+    let same : before_next h.last ≡ last_from 0 bytes = ap before_next r.last ∙ before_last bytes in
+    rw same (sound_of_front 0 bytes more (λ e. absurd (omega arith)) r.stands.stuffed)
+
+-- the bits that follow those that were given
+pub bits_behind : (bits : List Bool) (bytes more : List ℕ) (h : Hand) → HasRead bits bytes h
+    → drop (length bits) (packed_bits (bytes ++ more)).bits ≡ number_bits h.left (before_next h.last) ++ carried_after (before_next h.last) (sound_after (before_next h.last) more)
+bits_behind bits bytes more h r =
+    let last = before_next h.last in
+    let same : last_after 0 bytes ≡ last = same_last 0 bytes ∙ sym (ap before_next r.last ∙ before_last bytes) in
+    let behind = carried_after last (sound_after last more) in
+    let whole : carried (sound_after 0 (bytes ++ more)) ≡ bits ++ (number_bits h.left last ++ behind) =
+    ap carried (sound_of_all bits bytes more h r)
+    ∙ (carried-append 0 bytes (sound_after last more)
+    ∙ (ap (λ (k : ℕ). carried bytes ++ carried_after k (sound_after last more)) same
+    ∙ (ap (λ (l : List Bool). l ++ behind) r.stands.filled ∙ append_assoc bits (number_bits h.left last) behind))) in
+    ap (drop (length bits)) whole ∙ drop_at bits (number_bits h.left last ++ behind) (length bits) refl
+
+-- the answer where a bit is in hand
+pub answer_in_hand : (bits : List Bool) (bytes more : List ℕ) (h : Hand) → 0 < h.left → HasRead bits bytes h → Bit (first_of_hand h) ≡ answer_after bits (packed_bits (bytes ++ more))
+answer_in_hand bits bytes more h some r = rw (bits_behind bits bytes more h r, first_bit h.left (before_next h.last) some) refl
+
+-- a choice of a byte, by its test
+no_choice : (t : Bool) (b : ℕ) → (if t then Broken else Byte b) ≡ NoByte → ⊥
+no_choice true b e = cc
+no_choice false b e = cc
+
+broken_choice : (t : Bool) (b : ℕ) → (if t then Broken else Byte b) ≡ Broken → t ≡ true
+broken_choice true b e = refl
+broken_choice false b e = absurd (cc)
+
+byte_choice : (t : Bool) (b c : ℕ) → (if t then Broken else Byte b) ≡ Byte c → (t ≡ false) × (b ≡ c)
+byte_choice true b c e = absurd (cc)
+byte_choice false b c e = (refl, cc)
+
+-- what the next byte is, by what is said of it
+pub none_next : (before : ℕ) (more : List ℕ) → next_of before more ≡ NoByte → more ≡ []
+none_next before [] e = refl
+none_next before (b ∷ more) e = absurd (no_choice ((before == 255) && nat_le 128 b) b e)
+
+pub broken_next : (before : ℕ) (more : List ℕ) → next_of before more ≡ Broken → (sound_after before more ≡ []) × (0 < length more)
+unfolding sound_after
+broken_next before [] e = absurd (cc)
+broken_next before (b ∷ more) e = (let t : ((before == 255) && nat_le 128 b) ≡ true = broken_choice ((before == 255) && nat_le 128 b) b e in rw t refl, omega arith)
+
+pub byte_next : (before : ℕ) (more : List ℕ) (c : ℕ) → next_of before more ≡ Byte c → (rest : List ℕ) × (more ≡ c ∷ rest) × (sound_after before more ≡ c ∷ sound_after c rest) × (before ≡ 255 → c < 128)
+unfolding sound_after
+byte_next before [] c e = absurd (cc)
+byte_next before (b ∷ more) c e =
+    let t = byte_choice ((before == 255) && nat_le 128 b) b c e in
+    let test : ((before == 255) && nat_le 128 b) ≡ false = t.0 in
+    let same : b ≡ c = t.1 in (
+      more,
+      ap (λ (k : ℕ). k ∷ more) same,
+      rw test (ap (λ (k : ℕ). k ∷ sound_after k more) same),
+      λ f. let g : (before == 255) ≡ true = ap (λ (k : ℕ). k == 255) f in let u : nat_le 128 b ≡ false = rw g at test in omega (arith, leb-false 128 b u),
+    )
+
+-- the answer where no byte follows
+pub answer_at_end : (bits : List Bool) (bytes more : List ℕ) (h : Hand) → h.left ≡ 0 → next_of (before_next h.last) more ≡ NoByte → HasRead bits bytes h
+    → Need ≡ answer_after bits (packed_bits (bytes ++ more))
+unfolding number_bits carried_after sound_after
+answer_at_end bits bytes more h none e r =
+    let all : more ≡ [] = none_next (before_next h.last) more e in
+    let behind : drop (length bits) (packed_bits (bytes ++ more)).bits ≡ [] = bits_behind bits bytes more h r ∙ rw (none, all) refl in
+    let sound : sound_after 0 (bytes ++ more) ≡ bytes ++ more = sound_of_all bits bytes more h r ∙ rw all refl in
+    let whole : nat_lt (length (sound_after 0 (bytes ++ more))) (length (bytes ++ more)) ≡ false = rw sound (lt-leb (suc (length (bytes ++ more))) (length (bytes ++ more)) (omega arith)) in
+    rw (behind, whole) refl
+
+-- where a byte follows that breaks the stuffing
+pub answer_broken : (bits : List Bool) (bytes more : List ℕ) (h : Hand) → h.left ≡ 0 → next_of (before_next h.last) more ≡ Broken → HasRead bits bytes h
+    → Stuffed ≡ answer_after bits (packed_bits (bytes ++ more))
+unfolding number_bits carried_after
+answer_broken bits bytes more h none e r =
+    let next = broken_next (before_next h.last) more e in
+    let none_sound : sound_after (before_next h.last) more ≡ [] = next.0 in
+    let behind : drop (length bits) (packed_bits (bytes ++ more)).bits ≡ [] = bits_behind bits bytes more h r ∙ rw (none, none_sound) refl in
+    let sound : sound_after 0 (bytes ++ more) ≡ bytes = sound_of_all bits bytes more h r ∙ rw none_sound (append-nil bytes) in
+    let part : nat_lt (length (sound_after 0 (bytes ++ more))) (length (bytes ++ more)) ≡ true = rw sound (le-leb (suc (length bytes)) (length (bytes ++ more)) (omega (arith, next.1, length-append bytes more))) in
+    rw (behind, part) refl
+
+-- where another byte follows
+pub answer_next : (bits : List Bool) (bytes more : List ℕ) (h : Hand) (b : ℕ) → h.left ≡ 0 → next_of (before_next h.last) more ≡ Byte b → HasRead bits bytes h
+    → Bit (first_of_hand (took (before_next h.last) b)) ≡ answer_after bits (packed_bits (bytes ++ more))
+unfolding number_bits carried_after
+answer_next bits bytes more h b none e r =
+    let next = byte_next (before_next h.last) more b e in
+    let sound : sound_after (before_next h.last) more ≡ b ∷ sound_after b next.0 = next.2 in
+    let some : number_bits (width_after (before_next h.last)) b ≡ first_of_hand (took (before_next h.last) b) ∷ number_bits (width_after (before_next h.last) - 1) b = first_bit (width_after (before_next h.last)) b (width_some (before_next h.last)) in
+    let behind : drop (length bits) (packed_bits (bytes ++ more)).bits ≡ number_bits (width_after (before_next h.last)) b ++ carried_after b (sound_after b next.0) = bits_behind bits bytes more h r ∙ rw (none, sound) refl in
+    rw (behind, some) refl
+
+-- no byte of a piece, and one
+pub range_none : (xs : List ℕ) (i : ℕ) → slice_range xs i i ≡ []
+range_none xs i = let e : i - i ≡ 0 = omega arith in rw e refl
+
+pub range_one : (xs rest : List ℕ) (i b : ℕ) → drop i xs ≡ b ∷ rest → slice_range xs i (i + 1) ≡ b ∷ []
+range_one xs rest i b e = let f : i + 1 - i ≡ 1 = omega arith in rw (f, e) refl
+
+-- a reader with a byte in hand has taken one
+some_bytes : (bytes : List ℕ) → IsSome (last_of bytes) → 0 < length bytes
+some_bytes [] h = absurd (cc)
+some_bytes (b ∷ bytes) h = omega arith
+
+pub took_some : (bits : List Bool) (bytes : List ℕ) (h : Hand) → IsSome h.last → HasRead bits bytes h → 0 < length bytes
+took_some bits bytes h some r = let P : Option ℕ → Type 0 = λ o. IsSome o in some_bytes bytes (subst P r.last some)
+
+-- bits whose last byte isn't FF are closed by none
+pub closed_by_none : (bits : List Bool) (bytes piece : List ℕ) (at : ℕ) (h : Hand) → IsSome h.last → before_next h.last ≢ 255 → HasRead bits bytes h → Packs bits (bytes ++ slice_range piece at at)
+closed_by_none bits bytes piece at h some other r =
+    let same : before_next h.last ≡ last_from 0 bytes = ap before_next r.last ∙ before_last bytes in
+    let v = before_next h.last in
+    let size : 0 ≡ closing_after (last_from 0 bytes) = elim (eqb_tells (last_from 0 bytes) 255) [ inl t ↦ absurd (other (same ∙ t.1)) | inr t ↦ rw t.0 refl ] in
+    let none : bytes ++ slice_range piece at at ≡ bytes = ap (λ (l : List ℕ). bytes ++ l) (range_none piece at) ∙ append-nil bytes in
+    let P : List ℕ → Type 0 = λ l. IsBytes l in
+    let Q : List ℕ → Type 0 = λ l. IsStuffed l in
+    let R : List ℕ → Type 0 = λ l. Packs bits l in
+    let e : bytes ≡ bytes ++ [] = sym (append-nil bytes) in
+    subst R (sym (none ∙ e)) (packs_where_closed bits (number_bits h.left v) bytes [] r.stands (took_some bits bytes h some r) size (subst P e r.stands.each) (subst Q e r.stands.stuffed))
+
+-- and those whose last byte is FF by one whose top bit is 0
+pub closed_by_one : (bits : List Bool) (bytes piece : List ℕ) (at b : ℕ) (h : Hand) → IsSome h.last → before_next h.last ≡ 255 → b < 256 → next_of (before_next h.last) (drop at piece) ≡ Byte b
+    → HasRead bits bytes h → Packs bits (bytes ++ slice_range piece at (at + 1))
+closed_by_one bits bytes piece at b h some ff small e r =
+    let same : before_next h.last ≡ last_from 0 bytes = ap before_next r.last ∙ before_last bytes in
+    let next = byte_next (before_next h.last) (drop at piece) b e in
+    let low : b < 128 = next.3 ff in
+    let size : 1 ≡ closing_after (last_from 0 bytes) = let f : last_from 0 bytes ≡ 255 = sym same ∙ ff in rw f refl in
+    let one : slice_range piece at (at + 1) ≡ b ∷ [] = range_one piece next.0 at b next.1 in
+    rw one (packs_where_closed bits (number_bits h.left (before_next h.last)) bytes (b ∷ []) r.stands (took_some bits bytes h some r) size
+    (bytes-push bytes b r.stands.each small) (stuffed-push bytes b r.stands.stuffed (λ f. low)))
+
+-- an item of a piece is a byte
+pub byte_of_piece : (piece rest : List ℕ) (at b : ℕ) → drop at piece ≡ b ∷ rest → IsBytes piece → b < 256
+byte_of_piece piece rest at b e h = omega (arith, h (at + 0), get_or-drop at piece 0 0, ap (λ (l : List ℕ). slice_index l 0) e)
+
+-- a byte of a piece is taken, and its first bit given
+pub reads_piece : (bits : List Bool) (bytes piece : List ℕ) (at b w : ℕ) (h : Hand) → h.left ≡ 0 → IsBytes piece → next_of (before_next h.last) (drop at piece) ≡ Byte b → w ≡ width_after (before_next h.last)
+    → HasRead bits bytes h
+    → HasRead (bits ++ first_of_hand (record { last = Some b; left = w }) ∷ []) (bytes ++ slice_range piece at (at + 1)) (record { last = Some b; left = w - 1 })
+reads_piece bits bytes piece at b w h none each e width r =
+    let next = byte_next (before_next h.last) (drop at piece) b e in
+    let one : slice_range piece at (at + 1) ≡ b ∷ [] = range_one piece next.0 at b next.1 in
+    rw (one, width) (reads_next bits bytes h b none (byte_of_piece piece next.0 at b next.1 each) next.3 r)
+
+-- and the answer is that bit
+pub answer_of_piece : (bits : List Bool) (bytes more : List ℕ) (b w : ℕ) (h : Hand) → h.left ≡ 0 → next_of (before_next h.last) more ≡ Byte b → w ≡ width_after (before_next h.last) → HasRead bits bytes h
+    → Bit (first_of_hand (record { last = Some b; left = w })) ≡ answer_after bits (packed_bits (bytes ++ more))
+answer_of_piece bits bytes more b w h none e width r = rw width (answer_next bits bytes more h b none e r)
+
+-- one item of a list is its first
+first_of_one : (n : ℕ) (rest : List ℕ) → length (take n rest) ≡ 1 → (b : ℕ) × (more : List ℕ) × (rest ≡ b ∷ more) × (take n rest ≡ b ∷ [])
+first_of_one zero rest e = absurd (omega arith)
+first_of_one (suc n) [] e = absurd (omega arith)
+first_of_one (suc n) (b ∷ more) e = (b, more, refl, ap (λ (l : List ℕ). b ∷ l) (nil_from_length (take n more) (omega arith)))
+
+-- where a front of the bytes that follow closes bits whose last byte is FF, it is one byte whose top bit is 0
+pub closed_by_front : (bits : List Bool) (bytes rest : List ℕ) (n : ℕ) (h : Hand) → IsSome h.last → before_next h.last ≡ 255 → HasRead bits bytes h → Packs bits (bytes ++ take n rest)
+    → (b : ℕ) × (more : List ℕ) × (rest ≡ b ∷ more) × (b < 128)
+closed_by_front bits bytes rest n h some ff r p =
+    let same : before_next h.last ≡ last_from 0 bytes = ap before_next r.last ∙ before_last bytes in
+    let begun : 0 < length bytes = took_some bits bytes h some r in
+    let high : length bits ≤ length (carried (p.front ++ p.last ∷ [])) = omega (arith, ap length p.filled, length-append bits p.pad) in
+    let reached : length bytes ≡ suc (length p.front) =
+    sym (reach_of bits (number_bits h.left (before_next h.last)) bytes (take n rest) r.stands begun)
+    ∙ (ap (bytes_of_bits 0 (length bits)) p.whole ∙ bytes_reached 0 p.front p.last p.closing (length bits) p.needed high) in
+    let parts = same_front bytes (p.front ++ p.last ∷ []) (take n rest) p.closing (omega (arith, length-append p.front (p.last ∷ []))) (p.whole ∙ sym (append_assoc p.front (p.last ∷ []) p.closing)) in
+    let last : p.last ≡ 255 = sym (last-push 0 p.front p.last) ∙ (ap (last_from 0) (sym parts.0) ∙ (sym same ∙ ff)) in
+    let one : length (take n rest) ≡ 1 = ap length parts.1 ∙ (p.closed ∙ rw last refl) in
+    let first = first_of_one n rest one in
+    let P : List ℕ → Type 0 = λ l. IsStuffed (bytes ++ l) in
+    (first.0, first.1, first.2, (stuffed_less bytes first.0 (subst P first.3 p.stuffed)).1 (sym same ∙ ff))
+
+-- so nothing closes them where no byte follows, or one that breaks the stuffing
+pub none_closes : (bits : List Bool) (bytes rest : List ℕ) (n : ℕ) (h : Hand) → IsSome h.last → before_next h.last ≡ 255 → next_of (before_next h.last) rest ≡ NoByte → HasRead bits bytes h → Packs bits (bytes ++ take n rest) → ⊥
+none_closes bits bytes rest n h some ff e r p =
+    let c = closed_by_front bits bytes rest n h some ff r p in
+    let none : rest ≡ [] = none_next (before_next h.last) rest e in
+    omega (arith, ap length (sym none ∙ c.2))
+
+pub broken_closes_nothing : (bits : List Bool) (bytes rest : List ℕ) (n : ℕ) (h : Hand) → IsSome h.last → before_next h.last ≡ 255 → next_of (before_next h.last) rest ≡ Broken → HasRead bits bytes h
+    → Packs bits (bytes ++ take n rest) → ⊥
+broken_closes_nothing bits bytes rest n h some ff e r p =
+    let c = closed_by_front bits bytes rest n h some ff r p in
+    let low : nat_le 128 c.0 ≡ false = lt-leb 128 c.0 c.3 in
+    let found : next_of (before_next h.last) (c.0 ∷ c.1) ≡ Broken = ap (next_of (before_next h.last)) (sym c.2) ∙ e in
+    let not : next_of 255 (c.0 ∷ c.1) ≡ Byte c.0 = rw low refl in
+    let other : next_of (before_next h.last) (c.0 ∷ c.1) ≡ Byte c.0 = ap (λ (k : ℕ). next_of k (c.0 ∷ c.1)) ff ∙ not in
+    let clash : Broken ≡ Byte c.0 = sym found ∙ other in
+    cc

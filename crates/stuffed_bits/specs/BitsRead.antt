@@ -1,0 +1,49 @@
+-- What a reader of bits has read, and what it answers.
+use Rattle.std.specs.Prelude.{◌≡◌, ◌/◌, ◌%◌, ◌-◌, ◌^◌, ◌==◌, ◌&&◌, ℕ, Bool, false, List, [], ◌∷◌, length, drop, nat_le, Option, Some, None, if◌then◌else◌}
+use Rattle.codestream_model.specs.StuffedBits.{BitRun, number_bits}
+use Rattle.stuffed_bits.specs.Stands.{StandIn, last_of, before_next}
+use Rattle.stuffed_bits.specs.Hand.{Hand}
+use Rattle.stuffed_bits.specs.declared.bit_in.BitOut.{BitOut}
+use Rattle.stuffed_bits.specs.declared.bit_in.BitOut.TheVariants.{Bit, Need, Stuffed}
+use Rattle.stuffed_bits.specs.declared.bit_in.Next.{Next}
+use Rattle.stuffed_bits.specs.declared.bit_in.Next.TheVariants.{Byte, Need as NoByte, Stuffed as Broken}
+
+-- A reader that has given these bits, of these bytes that it has taken, has this in hand: the last of the bytes, and of its
+-- bits those that weren't given.
+pub record HasRead (bits : List Bool) (bytes : List ℕ) (h : Hand) : Type 0 where
+  pub last : h.last ≡ last_of bytes
+  pub stands : StandIn bits (number_bits h.left (before_next h.last)) bytes
+
+-- the bits that an answer gives
+abbrev pub given : BitOut → List Bool
+given (Bit b) = b ∷ []
+given Need = []
+given Stuffed = []
+
+-- the answer where these bits and no others are left, by whether the stuffing is broken behind them
+abbrev pub answer_by : List Bool → Option ℕ → BitOut
+answer_by (b ∷ bits) broken_at = Bit b
+answer_by [] None = Need
+answer_by [] (Some place) = Stuffed
+
+-- the answer after these bits
+abbrev pub answer_after : List Bool → BitRun → BitOut
+answer_after bits run = answer_by (drop (length bits) run.bits) run.broken_at
+
+-- the answer by the byte that closes bits
+abbrev pub closing_by : List ℕ → BitOut
+closing_by [] = Need
+closing_by (b ∷ more) = if nat_le 128 b then Stuffed else Bit false
+
+-- the answer where bits are closed, by their last byte and the bytes that follow it
+abbrev pub closing_answer : ℕ → List ℕ → BitOut
+closing_answer last rest = if last == 255 then closing_by rest else Bit false
+
+-- the next of bytes, by the byte before them
+abbrev pub next_of : ℕ → List ℕ → Next
+next_of before [] = NoByte
+next_of before (b ∷ more) = if (before == 255) && nat_le 128 b then Broken else Byte b
+
+-- the first bit in hand that wasn't given
+abbrev pub first_of_hand : Hand → Bool
+first_of_hand h = before_next h.last / 2 ^ (h.left - 1) % 2 == 1

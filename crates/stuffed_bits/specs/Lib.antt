@@ -1,0 +1,5 @@
+pub mod Stands
+pub mod Hand
+pub mod Pen
+pub mod BitsRead
+pub mod BitsWritten

@@ -1,0 +1,102 @@
+//! Bits that were worked out by hand from the bytes: eight in each, seven behind FF.
+use super::*;
+
+/// Bytes and the bits that are read of them; where the reader stands then; what closing them answers, and where.
+type ReadRow<'a> = (&'a [u8], &'a [u8], usize, (BitOut, usize));
+
+const C880: [u8; 10] = [1, 1, 0, 0, 1, 0, 0, 0, 1, 0];
+
+const EF64: [u8; 16] = [1, 1, 1, 0, 1, 1, 1, 1, 0, 1, 1, 0, 0, 1, 0, 0];
+
+const EFBFC0: [u8; 18] = [1, 1, 1, 0, 1, 1, 1, 1, 1, 0, 1, 1, 1, 1, 1, 1, 1, 1];
+
+const FF55: [u8; 15] = [1, 1, 1, 1, 1, 1, 1, 1, 1, 0, 1, 0, 1, 0, 1];
+
+const X01FF: [u8; 16] = [0, 0, 0, 0, 0, 0, 0, 1, 1, 1, 1, 1, 1, 1, 1, 1];
+
+#[test]
+fn bits_are_read_and_closed(rt: HostRuntime) {
+    let rows: [ReadRow; 9] = [
+        (&[0xC8, 0x80, 0xAA], &C880, 2, (BitOut::Bit(false), 2)),
+        (&[0xEF, 0x64], &EF64, 2, (BitOut::Bit(false), 2)),
+        (&[0xEF, 0xBF, 0xC0], &EFBFC0, 3, (BitOut::Bit(false), 3)),
+        (&[0xFF, 0x55, 0xFF], &FF55, 2, (BitOut::Bit(false), 2)),
+        (&[0xFF, 0x7F, 0x80], &FF55[..9], 2, (BitOut::Bit(false), 2)),
+        (
+            &[0x01, 0xFF, 0x7F, 0xFF],
+            &X01FF,
+            2,
+            (BitOut::Bit(false), 3),
+        ),
+        (&[0x01, 0xFF], &X01FF, 2, (BitOut::Need, 2)),
+        (&[0x01, 0xFF, 0x80], &X01FF, 2, (BitOut::Stuffed, 2)),
+        (&[0x01, 0xFF], &X01FF[..9], 2, (BitOut::Need, 2)),
+    ];
+    for (row, (bytes, bits, used, (closed, end))) in rows.iter().enumerate() {
+        let mut reader = BitIn::new();
+        let mut at = 0;
+        assert_eq!(rt; reader.bit(&[], &mut at), BitOut::Need, "before row {row}");
+        for (i, bit) in bits.iter().enumerate() {
+            if bytes.len() < at {
+                break;
+            }
+            let out = reader.bit(bytes, &mut at);
+            assert_eq!(rt; out, BitOut::Bit(*bit == 1), "bit {i} of row {row}");
+            if let BitOut::Bit(_) = out {
+                if i + 1 == bits.len() {
+                    assert_eq!(rt; at, *used, "row {row}");
+                    assert_eq!(rt; reader.close(bytes, &mut at), *closed, "row {row}");
+                    assert_eq!(rt; at, *end, "row {row}");
+                }
+            }
+        }
+    }
+}
+
+#[test]
+fn a_stuffed_byte_gives_no_bit(rt: HostRuntime) {
+    let mut reader = BitIn::new();
+    let mut at = 0;
+    for _ in 0..8 {
+        if at <= 1 {
+            assert_eq!(rt; reader.bit(&[0xFF], &mut at), BitOut::Bit(true));
+        }
+    }
+    let mut further = 0;
+    assert_eq!(rt; reader.bit(&[], &mut further), BitOut::Need);
+    assert_eq!(rt; reader.bit(&[0x80], &mut further), BitOut::Stuffed);
+    assert_eq!(rt; further, 0);
+}
+
+/// Writes bits and closes them.
+fn write(bits: &[u8], buf: &mut [u8]) -> Result<usize, Full> {
+    let mut writer = BitWriter::new();
+    for (i, bit) in bits.iter().enumerate() {
+        writer.put(*bit == 1, buf)?;
+        if i + 1 == bits.len() {
+            return writer.finish(buf);
+        }
+    }
+    Ok(0)
+}
+
+#[test]
+fn bits_are_written_within_the_buffer(rt: HostRuntime) {
+    let rows: [(&[u8], usize, Result<usize, Full>, [u8; 4]); 9] = [
+        (&C880, 4, Ok(2), [0xC8, 0x80, 0x55, 0x55]),
+        (&EF64, 2, Ok(2), [0xEF, 0x64, 0x55, 0x55]),
+        (&EFBFC0, 3, Ok(3), [0xEF, 0xBF, 0xC0, 0x55]),
+        (&EFBFC0, 2, Err(Full), [0xEF, 0xBF, 0x55, 0x55]),
+        (&FF55, 2, Ok(2), [0xFF, 0x55, 0x55, 0x55]),
+        (&FF55[..8], 2, Ok(2), [0xFF, 0x00, 0x55, 0x55]),
+        (&X01FF, 3, Ok(3), [0x01, 0xFF, 0x00, 0x55]),
+        (&X01FF, 2, Err(Full), [0x01, 0xFF, 0x55, 0x55]),
+        (&FF55[..1], 0, Err(Full), [0x55, 0x55, 0x55, 0x55]),
+    ];
+    for (row, (bits, room, answer, bytes)) in rows.iter().enumerate() {
+        let mut buf = [0x55u8; 4];
+        let room = (*room).min(4);
+        assert_eq!(rt; write(bits, &mut buf[..room]), *answer, "row {row}");
+        assert_eq!(rt; buf, *bytes, "row {row}");
+    }
+}

@@ -1,0 +1,57 @@
+-- A node's answer, and then those below it.
+use Rattle.std.proofs.Common.{◌≡◌, ◌-◌, ◌++◌, ℕ, Bool, List, [], ◌∷◌, drop, sym, ◌∙◌, ap, subst}
+use Rattle.std.specs.List.{slice_range}
+use Rattle.codestream_model.specs.TagTrees.{Seat, levels_from}
+use Rattle.codestream_model.specs.PacketHeaderReading.{Walked, Read, and_then, read_inclusion}
+use Rattle.tag_tree.specs.LeafReading.{behind, IsAnswer}
+use Rattle.tag_tree.proofs.AnswerLemmas.{answered_on, answered_last, inclusion_by_node, ranges_join, range_and_rest, leaf_levels, lower_levels}
+use Rattle.tag_tree.proofs.tree.Tree.+path_inclusion.Goals as goal
+
+pub returns-then-level-eq0-clause-read : goal.returns-then-level-eq0-clause-read
+returns-then-level-eq0-clause-read m c = λ band nodes done bytes k r.
+    let s : Seat = record { band = band; col = c.args.col; row = c.args.row } in
+    let all = bytes ++ drop c.args.at.now c.args.piece.now in
+    let P : List ℕ → Type 0 = λ levels. IsAnswer done all (bytes ++ slice_range c.args.piece.now c.args.at.now c.node_inclusion-out.new.at) c.node_inclusion-out.new.self c.node_inclusion-out.new.bits c.node_inclusion-out.result (read_inclusion levels s c.args.above nodes (behind done all)) in
+    subst P (sym (leaf_levels c.args.level c.if-level-eq0.true)) (c.node_inclusion-out.ensures.read band nodes done bytes k r)
+
+pub returns-in-Value-clause-read : goal.returns-in-Value-clause-read
+returns-in-Value-clause-read m c = λ band nodes done bytes k r.
+    let s : Seat = record { band = band; col = c.args.col; row = c.args.row } in
+    let piece = c.args.piece.now in
+    let at = c.args.at.now in
+    let mid = c.node_inclusion-out.new.at in
+    let end = c.path_inclusion.new.at in
+    let all = bytes ++ drop at piece in
+    let levels = levels_from (c.args.level - 1) in
+    let next : Walked → List Bool → Read Walked = λ w rest. read_inclusion levels s w.label w.nodes rest in
+    let first = read_inclusion (c.args.level ∷ []) s c.args.above nodes (behind done all) in
+    let whole : read_inclusion (levels_from c.args.level) s c.args.above nodes (behind done all) ≡ and_then first next =
+    ap (λ (l : List ℕ). read_inclusion l s c.args.above nodes (behind done all)) (lower_levels c.args.level c.if-level-eq0.false) ∙ inclusion_by_node c.args.level levels s c.args.above nodes (behind done all) in
+    let P : Read Walked → Type 0 = λ x. IsAnswer done all (bytes ++ slice_range piece at end) c.path_inclusion.new.self c.path_inclusion.new.bits c.path_inclusion.result x in
+    subst P (sym whole) (answered_on first next done all (bytes ++ slice_range piece at mid) (bytes ++ slice_range piece at end) c.node_inclusion-out.new.self c.path_inclusion.new.self c.node_inclusion-out.new.bits c.path_inclusion.new.bits
+    c.node_inclusion-out.result c.path_inclusion.result c.in-Value.label (c.node_inclusion-out.ensures.read band nodes done bytes k r) c.in-Value.is
+    (λ w more same knows has.
+    let below = c.path_inclusion.ensures.read band w.nodes (done ++ more) (bytes ++ slice_range piece at mid) knows has in
+    let Q : List ℕ → Type 0 = λ l. IsAnswer (done ++ more) l ((bytes ++ slice_range piece at mid) ++ slice_range piece mid end) c.path_inclusion.new.self c.path_inclusion.new.bits c.path_inclusion.result (read_inclusion levels s c.in-Value.label w.nodes (behind (done ++ more) l)) in
+    let R : List ℕ → Type 0 = λ l. IsAnswer (done ++ more) all l c.path_inclusion.new.self c.path_inclusion.new.bits c.path_inclusion.result (read_inclusion levels s c.in-Value.label w.nodes (behind (done ++ more) all)) in
+    let S : ℕ → Type 0 = λ v. IsAnswer (done ++ more) all (bytes ++ slice_range piece at end) c.path_inclusion.new.self c.path_inclusion.new.bits c.path_inclusion.result (read_inclusion levels s v w.nodes (behind (done ++ more) all)) in
+    subst S (sym same) (subst R (ranges_join bytes piece at mid end c.node_inclusion-out.ensures.onward c.path_inclusion.ensures.onward) (subst Q (range_and_rest bytes piece at mid c.node_inclusion-out.ensures.onward) below))))
+
+pub returns-in_default : goal.returns-in_default
+returns-in_default m c = record {
+  read = λ band nodes done bytes k r.
+      let s : Seat = record { band = band; col = c.args.col; row = c.args.row } in
+      let all = bytes ++ drop c.args.at.now c.args.piece.now in
+      let levels = levels_from (c.args.level - 1) in
+      let next : Walked → List Bool → Read Walked = λ w rest. read_inclusion levels s w.label w.nodes rest in
+      let first = read_inclusion (c.args.level ∷ []) s c.args.above nodes (behind done all) in
+      let taken = bytes ++ slice_range c.args.piece.now c.args.at.now c.node_inclusion-out.new.at in
+      let whole : read_inclusion (levels_from c.args.level) s c.args.above nodes (behind done all) ≡ and_then first next =
+      ap (λ (l : List ℕ). read_inclusion l s c.args.above nodes (behind done all)) (lower_levels c.args.level c.if-level-eq0.false) ∙ inclusion_by_node c.args.level levels s c.args.above nodes (behind done all) in
+      let P : Read Walked → Type 0 = λ x. IsAnswer done all taken c.node_inclusion-out.new.self c.node_inclusion-out.new.bits c.node_inclusion-out.result x in
+      subst P (sym whole) (answered_last first next done all taken c.node_inclusion-out.new.self c.node_inclusion-out.new.bits c.node_inclusion-out.result (c.node_inclusion-out.ensures.read band nodes done bytes k r) (λ v e. c.in_default.not-Value v e));
+  never = c.node_inclusion-out.ensures.never;
+  same = c.node_inclusion-out.ensures.same;
+  onward = c.node_inclusion-out.ensures.onward;
+  within = c.node_inclusion-out.ensures.within;
+}

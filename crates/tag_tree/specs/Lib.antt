@@ -1,0 +1,3 @@
+pub mod Places
+pub mod Grove
+pub mod LeafReading

@@ -1,0 +1,59 @@
+//! Where the nodes of a tree stand in one flat list: level by level from the leaves up, and each level row by row.
+ghost use Rattle.std.specs.Prelude.{◌≡◌, ◌<◌, ◌≤◌, ◌+◌, ◌*◌};
+ghost use Rattle.codestream_model.specs.TagTrees.{exponent};
+ghost use Rattle.tag_tree.specs.Places.{width_of, base_of, place_of};
+ghost use Rattle.tag_tree.specs.Grove.{nodes_of};
+
+/// The number of nodes that a tree of so many leaves needs at most.
+pub fn most_nodes(leaves: u32) -> usize
+    ensures { result ≡ nodes_of leaves }
+{
+    2 * leaves as usize + 16
+}
+
+/// The number of columns or rows of a level, by that of the leaves.
+pub fn width(leaves: u32, level: u32) -> u32
+    requires { level ≤ 16 }
+    ensures { result ≡ width_of leaves level }
+{
+    leaves.div_ceil(1 << level)
+}
+
+/// The number of nodes of the levels below this one.
+pub fn base(cols: u32, rows: u32, level: u32) -> usize
+    requires low { level ≤ 17 }
+    requires small { cols * rows ≤ 65536 }
+    ensures { result ≡ base_of cols rows level }
+{
+    if level == 0 {
+        return 0;
+    }
+    let below = level - 1;
+    base(cols, rows, below) + width(cols, below) as usize * width(rows, below) as usize
+}
+
+/// Where the node of a level on a leaf's path stands.
+pub fn place(cols: u32, rows: u32, level: u32, col: u32, row: u32) -> usize
+    requires low { level ≤ 16 }
+    requires small { cols * rows ≤ 65536 }
+    requires col_in { col < cols }
+    requires row_in { row < rows }
+    ensures { result ≡ place_of cols rows level col row }
+{
+    base(cols, rows, level)
+        + (row >> level) as usize * width(cols, level) as usize
+        + (col >> level) as usize
+}
+
+/// The least exponent whose power of two isn't below a number.
+pub fn exponent_of(most: u32) -> u32
+    requires { most ≤ 65536 }
+    ensures least { result ≡ exponent most }
+    ensures low { result ≤ 16 }
+{
+    let mut level = 0;
+    while level < 16 && (1 << level) < most {
+        level += 1;
+    }
+    level
+}

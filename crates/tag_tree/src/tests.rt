@@ -1,0 +1,99 @@
+//! Labels that were worked out by hand from the bits.
+use super::*;
+use std::alloc::AllocError;
+use stuffed_bits::{BitIn, BitOut};
+
+#[test]
+fn the_standards_example_is_read(rt: HostRuntime) -> Result<(), AllocError> {
+    // T.800 B.10.2: of 6 columns and 3 rows the first three leaves are 1, 3 and 2, with the bits 01111, 001 and 101.
+    let mut tree = Tree::reserve(rt.alloc(), 18)?;
+    tree.reset(6, 3);
+    let mut bits = BitIn::new();
+    let bytes = [0x79u8, 0xA0];
+    let mut at = 0;
+    assert_eq!(rt;
+        tree.read_value(0, 0, &mut bits, &bytes, &mut at),
+        TreeOut::Value(1)
+    );
+    assert_eq!(rt;
+        tree.read_value(1, 0, &mut bits, &bytes, &mut at),
+        TreeOut::Value(3)
+    );
+    assert_eq!(rt; at, 1);
+    assert_eq!(rt;
+        tree.read_value(2, 0, &mut bits, &bytes, &mut at),
+        TreeOut::Value(2)
+    );
+    assert_eq!(rt;
+        tree.read_value(1, 0, &mut bits, &bytes, &mut at),
+        TreeOut::Value(3)
+    );
+    assert_eq!(rt;
+        tree.read_value(5, 2, &mut bits, &bytes, &mut at),
+        TreeOut::Need
+    );
+    Ok(())
+}
+
+#[test]
+fn the_second_of_two_leaves_is_included(rt: HostRuntime) -> Result<(), AllocError> {
+    // D620 has the bits 1; 1, 0, 1 for inclusion, with the value's 01, 1 after the second leaf's.
+    let mut inclusion = Tree::reserve(rt.alloc(), 2)?;
+    let mut planes = Tree::reserve(rt.alloc(), 2)?;
+    inclusion.reset(2, 1);
+    planes.reset(2, 1);
+    let mut bits = BitIn::new();
+    let bytes = [0xD6u8, 0x20];
+    let mut at = 0;
+    assert_eq!(rt; bits.bit(&bytes, &mut at), BitOut::Bit(true));
+    assert_eq!(rt;
+        inclusion.read_inclusion(0, 0, &mut bits, &bytes, &mut at),
+        TreeOut::Value(1)
+    );
+    assert_eq!(rt;
+        inclusion.read_inclusion(1, 0, &mut bits, &bytes, &mut at),
+        TreeOut::Value(0)
+    );
+    assert_eq!(rt;
+        planes.read_value(1, 0, &mut bits, &bytes, &mut at),
+        TreeOut::Value(1)
+    );
+    Ok(())
+}
+
+#[test]
+fn labels_end_at_74(rt: HostRuntime) -> Result<(), AllocError> {
+    let mut tree = Tree::reserve(rt.alloc(), 1)?;
+    let bytes = [0u8, 0, 0, 0, 0, 0, 0, 0, 0, 0x20];
+    tree.reset(1, 1);
+    let mut bits = BitIn::new();
+    let mut at = 0;
+    assert_eq!(rt;
+        tree.read_value(0, 0, &mut bits, &bytes, &mut at),
+        TreeOut::Value(74)
+    );
+    let greater = [0u8, 0, 0, 0, 0, 0, 0, 0, 0, 0x10];
+    tree.reset(1, 1);
+    let mut further = BitIn::new();
+    let mut from = 0;
+    assert_eq!(rt;
+        tree.read_value(0, 0, &mut further, &greater, &mut from),
+        TreeOut::TooGreat
+    );
+    Ok(())
+}
+
+#[test]
+fn a_stuffed_byte_gives_no_label(rt: HostRuntime) -> Result<(), AllocError> {
+    let mut tree = Tree::reserve(rt.alloc(), 65536)?;
+    tree.reset(256, 256);
+    let mut bits = BitIn::new();
+    let bytes = [0xFFu8, 0x80];
+    let mut at = 0;
+    assert_eq!(rt;
+        tree.read_inclusion(255, 255, &mut bits, &bytes, &mut at),
+        TreeOut::Stuffed
+    );
+    assert_eq!(rt; at, 1);
+    Ok(())
+}

@@ -1,0 +1,347 @@
+//! The tree: its labels, and which of its nodes were met.
+ghost use Rattle.std.specs.Prelude.{◌≡◌, ◌≢◌, ◌<◌, ◌≤◌, ◌*◌, [], ◌∷◌, length, IfOk, if◌then◌else◌};
+ghost use Rattle.codestream_model.specs.TagTrees.{levels_from, root_level};
+ghost use Rattle.codestream_model.specs.PacketHeaderReading.{read_label, read_inclusion, read_planes};
+ghost use Rattle.tag_tree.specs.Places.{place_of};
+ghost use Rattle.tag_tree.specs.LeafReading.{Knows, IsSameShape, Reads, ReadsLabel, told_at, met_at};
+
+use crate::layout::{exponent_of, most_nodes, place};
+use std::alloc::{AllocError, Global};
+use std::marker::Model;
+use stuffed_bits::{BitIn, BitOut};
+
+/// What is read of a leaf.
+#[derive(Clone, Copy, Debug, PartialEq, Eq)]
+pub enum TreeOut {
+    /// The leaf's label; in an inclusion tree 0 is included and 1 isn't.
+    Value(u8),
+    /// The piece is at its end, and a further bit is wanted of another byte.
+    Need,
+    /// The byte after FF has its top bit set.
+    Stuffed,
+    /// A label passed 74.
+    TooGreat,
+}
+
+/// The greatest label of a value tree.
+const GREATEST: u8 = 74;
+
+/// Reads a label of the value tree that is at least this one.
+fn label_from(least: u8, bits: &mut BitIn, piece: &[u8], at: &mut usize) -> TreeOut
+    requires { at.old ≤ length piece.now }
+    ensures read { ReadsLabel (λ l. read_label least l) bits.old bits.new piece.now at.old at.new result }
+    ensures onward { at.old ≤ at.new }
+    ensures within { at.new ≤ length piece.now }
+{
+    match bits.bit(piece, at) {
+        BitOut::Need => TreeOut::Need,
+        BitOut::Stuffed => TreeOut::Stuffed,
+        BitOut::Bit(last) => {
+            if last {
+                return TreeOut::Value(least);
+            }
+            if least >= GREATEST {
+                return TreeOut::TooGreat;
+            }
+            label_from(least + 1, bits, piece, at)
+        }
+    }
+}
+
+/// The label that a bit gives a node of an inclusion tree.
+fn inclusion_label(included: bool) -> u8
+    ensures { result ≡ (if included then 0 else 1) }
+{
+    if included { 0 } else { 1 }
+}
+
+/// A tag tree over a grid of leaves.
+#[derive(Drop)]
+pub struct Tree {
+    /// How many leaves there is room for.
+    leaves: u32,
+    cols: u32,
+    rows: u32,
+    /// The root's level, where the leaves have level 0.
+    root: u32,
+    /// The labels of the nodes; 0 where a node wasn't met.
+    labels: Vec<u8>,
+    /// Whether a node was met.
+    met: Vec<bool>,
+}
+
+impl Model for Tree {
+    ghost use Rattle.std.specs.Prelude.{◌≡◌, ◌<◌, ◌≤◌, ◌*◌, length, max};
+    ghost use Rattle.codestream_model.specs.TagTrees.{exponent};
+    ghost use Rattle.tag_tree.specs.Grove.{Grove, nodes_of};
+
+    ghost Value = { Grove };
+
+    ghost view = { λ t. record { leaves = t.leaves; cols = t.cols; rows = t.rows; root = t.root; labels = t.labels.items; met = t.met.items } };
+
+    ghost invariant = { λ t. (t.leaves ≤ 65536) × (t.cols * t.rows ≤ t.leaves) × (length t.labels.items ≡ nodes_of t.leaves) × (length t.met.items ≡ nodes_of t.leaves) × (t.root ≤ 16) × (0 < t.cols → 0 < t.rows → t.root ≡ exponent (max t.cols t.rows)) };
+}
+
+impl Tree {
+    /// Takes room for a tree of so many leaves; it has none until `reset`.
+    ///
+    /// # Errors
+    ///
+    /// `AllocError` at want of memory.
+    pub fn reserve(alloc: Global, leaves: u32) -> Result<Tree, AllocError>
+        requires { leaves ≤ 65536 }
+        ensures { IfOk result (λ t. t.leaves ≡ leaves) }
+    {
+        let nodes = most_nodes(leaves);
+        Ok(Tree {
+            leaves,
+            cols: 0,
+            rows: 0,
+            root: 0,
+            labels: vec![in alloc; 0u8; nodes]?,
+            met: vec![in alloc; false; nodes]?,
+        })
+    }
+
+    /// Makes this the tree of a grid, of which nothing is known. The leaves are no more than there is room for.
+    pub fn reset(&mut self, cols: u32, rows: u32)
+        requires { cols * rows ≤ self.old.leaves }
+        ensures leaves { self.new.leaves ≡ self.old.leaves }
+        ensures cols { self.new.cols ≡ cols }
+        ensures rows { self.new.rows ≡ rows }
+        ensures empty { Knows self.new [] }
+    {
+        self.cols = cols;
+        self.rows = rows;
+        self.root = if cols == 0 || rows == 0 {
+            0
+        } else {
+            exponent_of(cols.max(rows))
+        };
+        self.labels.fill(0);
+        self.met.fill(false);
+    }
+
+    /// Where the node of a level on a leaf's path stands.
+    fn place(&self, level: u32, col: u32, row: u32) -> usize
+        requires low { level ≤ self.now.root }
+        requires col_in { col < self.now.cols }
+        requires row_in { row < self.now.rows }
+        ensures place { result ≡ place_of self.now.cols self.now.rows level col row }
+        ensures labelled { result < length self.now.labels }
+        ensures listed { result < length self.now.met }
+    {
+        place(self.cols, self.rows, level, col, row)
+    }
+
+    /// The label of a node, if it was met.
+    fn told(&self, place: usize) -> Option<u8>
+        requires labelled { place < length self.now.labels }
+        requires listed { place < length self.now.met }
+        ensures { result ≡ told_at self.now place }
+    {
+        if self.met[place] {
+            Some(self.labels[place])
+        } else {
+            None
+        }
+    }
+
+    /// Meets a node.
+    fn meet(&mut self, place: usize, label: u8)
+        requires labelled { place < length self.old.labels }
+        requires listed { place < length self.old.met }
+        ensures { self.new ≡ met_at self.old place label }
+    {
+        self.labels[place] = label;
+        self.met[place] = true;
+    }
+
+    /// Reads a node of the inclusion tree, by the label of the node above it.
+    fn node_inclusion(
+        &mut self,
+        level: u32,
+        above: u8,
+        col: u32,
+        row: u32,
+        bits: &mut BitIn,
+        piece: &[u8],
+        at: &mut usize,
+    ) -> TreeOut
+        requires low { level ≤ self.old.root }
+        requires col_in { col < self.old.cols }
+        requires row_in { row < self.old.rows }
+        requires inside { at.old ≤ length piece.now }
+        ensures read { Reads (λ s nodes l. read_inclusion (level ∷ []) s above nodes l) col row self.old self.new bits.old bits.new piece.now at.old at.new result }
+        ensures never { result ≢ TreeOut.TooGreat }
+        ensures same { IsSameShape self.old self.new }
+        ensures onward { at.old ≤ at.new }
+        ensures within { at.new ≤ length piece.now }
+    {
+        let place = self.place(level, col, row);
+        if let Some(label) = self.told(place) {
+            return TreeOut::Value(label);
+        }
+        if above != 0 {
+            return TreeOut::Value(above);
+        }
+        match bits.bit(piece, at) {
+            BitOut::Need => TreeOut::Need,
+            BitOut::Stuffed => TreeOut::Stuffed,
+            BitOut::Bit(included) => {
+                let label = inclusion_label(included);
+                self.meet(place, label);
+                TreeOut::Value(label)
+            }
+        }
+    }
+
+    /// Reads the rest of a leaf's path in the inclusion tree, from this level down.
+    fn path_inclusion(
+        &mut self,
+        level: u32,
+        above: u8,
+        col: u32,
+        row: u32,
+        bits: &mut BitIn,
+        piece: &[u8],
+        at: &mut usize,
+    ) -> TreeOut
+        requires low { level ≤ self.old.root }
+        requires col_in { col < self.old.cols }
+        requires row_in { row < self.old.rows }
+        requires inside { at.old ≤ length piece.now }
+        ensures read { Reads (λ s nodes l. read_inclusion (levels_from level) s above nodes l) col row self.old self.new bits.old bits.new piece.now at.old at.new result }
+        ensures never { result ≢ TreeOut.TooGreat }
+        ensures same { IsSameShape self.old self.new }
+        ensures onward { at.old ≤ at.new }
+        ensures within { at.new ≤ length piece.now }
+    {
+        let out = self.node_inclusion(level, above, col, row, bits, piece, at);
+        if level == 0 {
+            return out;
+        }
+        match out {
+            TreeOut::Value(label) => self.path_inclusion(
+                level - 1,
+                label,
+                col,
+                row,
+                bits,
+                piece,
+                at,
+            ),
+            _ => out,
+        }
+    }
+
+    /// Reads a leaf of the inclusion tree: 0 where it is included, else 1.
+    ///
+    /// `piece` are the bytes at hand, and `at` is the place in them behind the last byte that was taken. After any answer but
+    /// `Value` only `reset` may follow.
+    pub fn read_inclusion(
+        &mut self,
+        col: u32,
+        row: u32,
+        bits: &mut BitIn,
+        piece: &[u8],
+        at: &mut usize,
+    ) -> TreeOut
+        requires col_in { col < self.old.cols }
+        requires row_in { row < self.old.rows }
+        requires inside { at.old ≤ length piece.now }
+        ensures read { Reads (λ s nodes l. read_inclusion (levels_from (root_level (record { band = 0; cols = self.old.cols; rows = self.old.rows }))) s 0 nodes l) col row self.old self.new bits.old bits.new piece.now at.old at.new result }
+        ensures never { result ≢ TreeOut.TooGreat }
+        ensures same { IsSameShape self.old self.new }
+        ensures onward { at.old ≤ at.new }
+        ensures within { at.new ≤ length piece.now }
+    {
+        self.path_inclusion(self.root, 0, col, row, bits, piece, at)
+    }
+
+    /// Reads a node of the value tree, by the label of the node above it.
+    fn node_value(
+        &mut self,
+        level: u32,
+        above: u8,
+        col: u32,
+        row: u32,
+        bits: &mut BitIn,
+        piece: &[u8],
+        at: &mut usize,
+    ) -> TreeOut
+        requires low { level ≤ self.old.root }
+        requires col_in { col < self.old.cols }
+        requires row_in { row < self.old.rows }
+        requires inside { at.old ≤ length piece.now }
+        ensures read { Reads (λ s nodes l. read_planes (level ∷ []) s above nodes l) col row self.old self.new bits.old bits.new piece.now at.old at.new result }
+        ensures same { IsSameShape self.old self.new }
+        ensures onward { at.old ≤ at.new }
+        ensures within { at.new ≤ length piece.now }
+    {
+        let place = self.place(level, col, row);
+        if let Some(label) = self.told(place) {
+            return TreeOut::Value(label);
+        }
+        let out = label_from(above, bits, piece, at);
+        match out {
+            TreeOut::Value(label) => {
+                self.meet(place, label);
+                TreeOut::Value(label)
+            }
+            _ => out,
+        }
+    }
+
+    /// Reads the rest of a leaf's path in the value tree, from this level down.
+    fn path_value(
+        &mut self,
+        level: u32,
+        above: u8,
+        col: u32,
+        row: u32,
+        bits: &mut BitIn,
+        piece: &[u8],
+        at: &mut usize,
+    ) -> TreeOut
+        requires low { level ≤ self.old.root }
+        requires col_in { col < self.old.cols }
+        requires row_in { row < self.old.rows }
+        requires inside { at.old ≤ length piece.now }
+        ensures read { Reads (λ s nodes l. read_planes (levels_from level) s above nodes l) col row self.old self.new bits.old bits.new piece.now at.old at.new result }
+        ensures same { IsSameShape self.old self.new }
+        ensures onward { at.old ≤ at.new }
+        ensures within { at.new ≤ length piece.now }
+    {
+        let out = self.node_value(level, above, col, row, bits, piece, at);
+        if level == 0 {
+            return out;
+        }
+        match out {
+            TreeOut::Value(label) => self.path_value(level - 1, label, col, row, bits, piece, at),
+            _ => out,
+        }
+    }
+
+    /// Reads a leaf of the value tree, 0 to 74.
+    ///
+    /// `piece` and `at` are as for `read_inclusion`. After any answer but `Value` only `reset` may follow.
+    pub fn read_value(
+        &mut self,
+        col: u32,
+        row: u32,
+        bits: &mut BitIn,
+        piece: &[u8],
+        at: &mut usize,
+    ) -> TreeOut
+        requires col_in { col < self.old.cols }
+        requires row_in { row < self.old.rows }
+        requires inside { at.old ≤ length piece.now }
+        ensures read { Reads (λ s nodes l. read_planes (levels_from (root_level (record { band = 0; cols = self.old.cols; rows = self.old.rows }))) s 0 nodes l) col row self.old self.new bits.old bits.new piece.now at.old at.new result }
+        ensures same { IsSameShape self.old self.new }
+        ensures onward { at.old ≤ at.new }
+        ensures within { at.new ≤ length piece.now }
+    {
+        self.path_value(self.root, 0, col, row, bits, piece, at)
+    }
+}
