@@ -485,3 +485,57 @@ fn a_plan_that_the_reader_refuses_is_refused_so(rt: HostRuntime) {
     let answer = write_head(rt.alloc(), &plan);
     assert_eq!(rt; answer.err(), Some(PlanFault::Head(HeadWhy::Levels)));
 }
+
+/// A change with which the header is taken.
+const fn taken(from: usize, to: usize, put: &'static [u8]) -> Change {
+    Change { from, to, put }
+}
+
+#[test]
+fn the_least_and_the_greatest_values_are_taken(rt: HostRuntime) -> Result<(), AllocError> {
+    let cases = [
+        taken(6, 8, &[0xFF, 0xFF]),
+        taken(
+            8,
+            32,
+            &[
+                0x7F, 0xFF, 0xFF, 0xFF, 0, 0, 0, 1, 0, 0, 0, 0, 0, 0, 0, 0, 0x7F, 0xFF, 0xFF, 0xFF,
+                0, 0, 0, 1,
+            ],
+        ),
+        taken(
+            4,
+            45,
+            &[
+                0, 0x32, 0x40, 0, 0, 0, 0, 1, 0, 0, 0, 1, 0, 0, 0, 0, 0, 0, 0, 0, 0, 0, 0, 1, 0, 0,
+                0, 1, 0, 0, 0, 0, 0, 0, 0, 0, 0, 4, 7, 1, 1, 7, 1, 1, 7, 1, 1, 7, 1, 1,
+            ],
+        ),
+        taken(43, 45, &[0xFF, 0xFF]),
+        taken(53, 55, &[0x1F, 0xFF]),
+        taken(53, 55, &[0, 0]),
+        taken(
+            64,
+            75,
+            &[
+                0x0F, 4, 4, 0x40, 1, 0xFF, 0x5C, 0, 0x31, 0x40, 0x48, 0x48, 0x48, 0x48, 0x48, 0x48,
+                0x48, 0x48, 0x48, 0x48, 0x48, 0x48, 0x48, 0x48, 0x48, 0x48, 0x48, 0x48, 0x48, 0x48,
+                0x48, 0x48, 0x48, 0x48, 0x48, 0x48, 0x48, 0x48, 0x48, 0x48, 0x48, 0x48, 0x48, 0x48,
+                0x48, 0x48, 0x48, 0x48, 0x48, 0x48, 0x48, 0x48, 0x48, 0x48, 0x48, 0x48,
+            ],
+        ),
+        taken(65, 67, &[8, 0]),
+        taken(65, 67, &[0, 8]),
+        taken(65, 67, &[0, 0]),
+        taken(67, 68, &[0x48]),
+        taken(71, 75, &[0, 5, 0x41, 0x48, 0x48]),
+        taken(71, 75, &[0, 5, 0x42, 0x48, 0x48]),
+        taken(81, 85, &[0xFF, 0xFF, 0xFF, 0xFF]),
+        taken(86, 87, &[0]),
+    ];
+    for (row, change) in cases.iter().enumerate() {
+        let bytes = changed(rt.alloc(), &ONE_PIXEL, change)?;
+        assert!(rt; read_head(&bytes).is_ok(), "in row {row}");
+    }
+    Ok(())
+}
