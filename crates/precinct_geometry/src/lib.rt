@@ -8,3 +8,6 @@ mod place;
 
 pub use geometry::Geometry;
 pub use place::{Bands, Grid, Place};
+
+#[cfg(test)]
+mod tests;
