@@ -14,7 +14,8 @@ use Rattle.codestream_model.specs.Codestream.{joined}
 use Rattle.codestream_model.specs.PacketOrder.{pid}
 use Rattle.stream_model.specs.Stream.{Parts, ArePackets, IsBodyPayload, IsResync, extended_number, packet_start, mark_of}
 use Rattle.stream_model.specs.Cut.{Plan, IsPlan, Piece, Known, room, pieces_of, known_of, payloads, piece_start, touched, started, res_of, body_header, number_at, rtp_at, body_at, bodies_at}
-use Rattle.stream_model.specs.Laws.{FitBody, FitPayload, IsSendable}
+use Rattle.stream_model.specs.Laws.{FitBody, FitPayload}
+use Rattle.stream_model.proofs.Sendable.{IsSendable}
 use Rattle.stream_model.proofs.InTime.{both}
 use Rattle.stream_model.proofs.Thinned.{all-filter}
 use Rattle.stream_model.proofs.CutPayloads.{all-append}

@@ -10,7 +10,8 @@ use Rattle.std.proofs.lemmas.List.Sums.{sum_by-cons}
 use Rattle.wire_model.specs.Datagram.{Datagram, IsDatagram}
 use Rattle.stream_model.specs.Stream.{Parts, ArePartsOf, Sent, datagrams_of, IsBodyPayload, Mark, IsResync, extended_number, mark_of, marks, payload_start, bytes_after_sod, Carries, Carry}
 use Rattle.stream_model.specs.Cut.{Plan, IsPlan, known_of, payloads, number_at, main_at, bodies_at, stamp_at, position_of, sent_by, datagram_bytes}
-use Rattle.stream_model.specs.Laws.{IsSendable, CutIsStream}
+use Rattle.stream_model.specs.Laws.{CutIsStream}
+use Rattle.stream_model.proofs.Sendable.{IsSendable, all_sendable}
 use Rattle.stream_model.proofs.Bases.{not_true}
 use Rattle.stream_model.proofs.Positions.{placed, are_placed}
 use Rattle.stream_model.proofs.WrittenDatagrams.{written_is_datagram}
@@ -207,7 +208,8 @@ zip_length (c ∷ parts) [] a = absurd a
 zip_length (c ∷ parts) (b ∷ codestreams) a = ap (λ n. suc n) (zip_length parts codestreams a.1)
 
 pub cut_is_stream : CutIsStream
-cut_is_stream p parts codestreams r a s few small =
+cut_is_stream p parts codestreams r a bytes room_for few small =
+    let s : AllByRecursion (IsSendable p) parts = all_sendable p parts codestreams a bytes room_for in
     let sent : List Sent = placed (count_of p) (the_sent p) 0 0 parts in
     let xs : List Datagram = flat_map datagrams_of sent in
     let is : sent_by p parts ≡ sent = sent_placed p parts in

@@ -9,6 +9,7 @@ pub mod WrittenDatagrams
 pub mod CutPayloads
 pub mod Positions
 pub mod StreamShapes
+pub mod Sendable
 pub mod CutBodies
 pub mod CutStreams
 pub mod CutRuns

@@ -6,11 +6,11 @@ use Rattle.wire_model.specs.Rtp.{FitRtp}
 use Rattle.wire_model.specs.Payload.{BodyFields, PayloadFields, Main, Body}
 use Rattle.wire_model.specs.Datagram.{Datagram, IsDatagram}
 use Rattle.codestream_model.specs.Values.{Head}
+use Rattle.codestream_model.specs.Bytes.{IsBytes}
 use Rattle.codestream_model.specs.Packet.{Content}
 use Rattle.codestream_model.specs.Codestream.{SpellsCodestream, joined}
 use Rattle.stream_model.specs.Arrivals.{picked, Arrive, datagram_at, has_arrived, first_arrival, in_time, floor, base, positions_in_time}
 use Rattle.stream_model.specs.Stream.{Parts, Sent, ArePartsOf, Carries, Carry, datagrams_of, packet_start, precinct_at, bytes_after_sod, payload_start, body_with, carried}
-use Rattle.codestream_model.specs.PacketOrder.{pid}
 use Rattle.stream_model.specs.Cut.{Plan, IsPlan, Piece, Known, room, known_of, stretches, chunks, payloads, sent_by, datagram_bytes}
 use Rattle.stream_model.specs.Reached.{CarriedPacket, ResyncPoint, Carried, StreamPrecinct, is_reached, precincts_by, due, due_at_end}
 
@@ -220,16 +220,12 @@ ClosedStays =
     (p : Plan) (was now : Known) → 1 ≤ room p → was.ended ≡ false → HasGrown was.pieces now.pieces
     → (more : List (List ℕ)) × (payloads p now ≡ payloads p was ++ more)
 
--- a codestream that can be sent by a plan: its main header has room in a datagram, and RES and PID of its precincts fit
-pub record IsSendable (p : Plan) (c : Parts) : Type 0 where
-  pub fits : length c.header ≤ room p
-  pub resolutions : AllByRecursion (λ q. q.r ≤ c.head.levels) c.places
-  pub numbers : AllByRecursion (λ q. pid c.head q < 2 ^ 20) c.places
-
--- the cut of at most 65,536 codestreams that can be sent, in fewer than 2^23 datagrams, is a stream that carries them
+-- the cut of at most 65,536 codestreams whose main headers have room in a datagram, in fewer than 2^23 datagrams, is a stream that
+-- carries them
 abbrev pub CutIsStream : Type 0
 CutIsStream =
     (p : Plan) (parts : List Parts) (codestreams : List (List ℕ))
-    → IsPlan p → AllZip (λ c codestream. ArePartsOf c codestream) parts codestreams → AllByRecursion (IsSendable p) parts
+    → IsPlan p → AllZip (λ c codestream. ArePartsOf c codestream) parts codestreams → AllByRecursion IsBytes codestreams
+    → AllByRecursion (λ c. length c.header ≤ room p) parts
     → length codestreams ≤ 65536 → length (flat_map datagrams_of (sent_by p parts)) < 2 ^ 23
     → Carry (sent_by p parts) codestreams (map datagram_bytes (flat_map datagrams_of (sent_by p parts)))
