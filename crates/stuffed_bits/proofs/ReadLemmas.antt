@@ -73,7 +73,7 @@ sound_of_front before (b ∷ bytes) more first stuffed =
     rw sound (ap (λ (l : List ℕ). b ∷ l) (sound_of_front b bytes more (stuffed 0) (stuffed_tail b bytes stuffed)))
 
 -- what is sound of the bytes that were taken and of those that follow
-sound_of_all : (bits : List Bool) (bytes more : List ℕ) (h : Hand) → HasRead bits bytes h → sound_after 0 (bytes ++ more) ≡ bytes ++ sound_after (before_next h.last) more
+pub sound_of_all : (bits : List Bool) (bytes more : List ℕ) (h : Hand) → HasRead bits bytes h → sound_after 0 (bytes ++ more) ≡ bytes ++ sound_after (before_next h.last) more
 sound_of_all bits bytes more h r =
     let same : before_next h.last ≡ last_from 0 bytes = ap before_next r.last ∙ before_last bytes in
     rw same (sound_of_front 0 bytes more (λ e. absurd (omega arith)) r.stands.stuffed)

@@ -1,7 +1,7 @@
 //! The reader: bits one at a time, from bytes that come in pieces.
-ghost use Rattle.std.specs.Prelude.{◌≡◌, ◌≢◌, ◌<◌, ◌≤◌, ◌-◌, ◌++◌, ℕ, List, [], Bool, false, length, take, drop, IsSome};
+ghost use Rattle.std.specs.Prelude.{◌≡◌, ◌≢◌, ◌<◌, ◌≤◌, ◌+◌, ◌-◌, ◌++◌, ℕ, List, [], Bool, false, length, take, drop, IsSome};
 ghost use Rattle.std.specs.List.{slice_range};
-ghost use Rattle.codestream_model.specs.StuffedBits.{Packs, packed_bits};
+ghost use Rattle.codestream_model.specs.StuffedBits.{Packs, packed_bits, closing_after};
 ghost use Rattle.stuffed_bits.specs.Stands.{before_next};
 ghost use Rattle.stuffed_bits.specs.Hand.{no_byte};
 ghost use Rattle.stuffed_bits.specs.BitsRead.{HasRead, given, answer_after, closing_answer, next_of, first_of_hand};
@@ -134,6 +134,7 @@ impl BitIn {
         ensures packed { result ≡ BitOut.Bit false → (bits : List Bool) (bytes : List ℕ) → HasRead bits bytes self.old → Packs bits (bytes ++ slice_range piece.now at.old at.new) }
         ensures only { (bits : List Bool) (bytes : List ℕ) (n : ℕ) → HasRead bits bytes self.old → Packs bits (bytes ++ take n (drop at.old piece.now)) → result ≡ BitOut.Bit false }
         ensures empty { result ≡ BitOut.Bit false → self.new ≡ no_byte }
+        ensures past { result ≡ BitOut.Bit false → at.new ≡ at.old + closing_after (before_next self.old.last) }
         ensures onward { at.old ≤ at.new }
         ensures within { at.new ≤ length piece.now }
         ensures unchanged { result ≢ BitOut.Bit false → (self.new ≡ self.old) × (at.new ≡ at.old) }

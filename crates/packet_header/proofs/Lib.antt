@@ -1,0 +1,9 @@
+pub mod Standings
+pub mod Leaves
+pub mod Closings
+pub mod Chains
+pub mod BlockParts
+pub mod SeatSteps
+pub mod SeatRuns
+pub mod GridRuns
+pub mod HeaderRuns

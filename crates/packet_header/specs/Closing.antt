@@ -1,0 +1,19 @@
+-- What is answered where the bits of a header are closed.
+use Rattle.std.specs.Prelude.{◌≡◌, ◌+◌, ◌-◌, ◌==◌, ◌&&◌, ℕ, List, Result, Ok, Err, length, slice_index, nat_lt, if◌then◌else◌}
+use Rattle.codestream_model.specs.StuffedBits.{packed_bits, bytes_of_bits}
+use Rattle.packet_header.specs.Standing.{given_by}
+use Rattle.packet_header.specs.declared.source.Source.{Source}
+use Rattle.packet_header.specs.Answers.{stop_at}
+use Rattle.packet_header.specs.declared.refusal.Stop.{Stop}
+
+-- The number of bytes that the bits reach into, and one more where the last of them is FF: it is there, with a top bit that is
+-- 0, or else a byte is wanted.
+abbrev pub closed_after : List ℕ → ℕ → Result ℕ Stop
+closed_after bytes used =
+    if slice_index bytes (used - 1) == 255
+    then (if nat_lt used (length bytes) && nat_lt (slice_index bytes used) 128 then Ok (used + 1) else Err (stop_at (packed_bits bytes).broken_at))
+    else Ok used
+
+-- the same for the bits that a source has given
+abbrev pub closes : Source → Result ℕ Stop
+closes s = closed_after s.piece.now (bytes_of_bits 0 (given_by s) s.piece.now)

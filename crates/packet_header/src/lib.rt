@@ -1,0 +1,20 @@
+//! Packet headers (T.800 B.10, with the segments of T.814): the code-blocks that a packet includes, how many bit-planes and
+//! coding passes each has, and how many bytes their segments take.
+//!
+//! `HeaderReader` reads the header at the front of bytes. A header is as long as it says itself: it ends where the last
+//! code-block's values do, filled up to a whole byte.
+#![tactic(auto)]
+
+mod block;
+mod grids;
+mod pieces;
+mod reader;
+mod refusal;
+mod source;
+
+pub use block::{Block, Precinct};
+pub use reader::HeaderReader;
+pub use refusal::{HeaderOut, HeaderWhy};
+
+#[cfg(test)]
+mod tests;

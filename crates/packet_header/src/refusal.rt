@@ -1,0 +1,60 @@
+//! What is answered where a packet header is read.
+ghost use Rattle.std.specs.Prelude.{◌≡◌, Option};
+ghost use Rattle.packet_header.specs.Answers.{out_at};
+
+/// Why bytes are no packet header. Each reason has the bit that decides it, and all before that bit is sound.
+#[derive(Clone, Copy, Debug, PartialEq, Eq)]
+pub enum HeaderWhy {
+    /// The top bit of a byte after FF is set (T.800 B.10.1).
+    Stuffed,
+    /// A number of coding passes above 3.
+    Passes,
+    /// An Lblock above 24.
+    LengthBits,
+    /// A cleanup segment of fewer than 2 bytes.
+    CleanupShort,
+    /// A cleanup segment of 65,535 bytes or more.
+    CleanupLong,
+    /// A refinement segment of 2,047 bytes or more.
+    RefineLong,
+    /// More than 74 zero bit-planes.
+    ZeroPlanes,
+    /// A byte past the 65,536th is needed.
+    TooLong,
+}
+
+/// What is read of the bytes at hand.
+#[derive(Clone, Copy, Debug, PartialEq, Eq)]
+pub enum HeaderOut {
+    /// The header ended after so many bytes.
+    Done(usize),
+    /// The bytes ended before the header did, and before the deciding bit of any refusal.
+    Need,
+    /// The bytes are refused.
+    Bad(HeaderWhy),
+}
+
+/// Why no further value is read.
+#[derive(Clone, Copy, Debug, PartialEq, Eq)]
+pub enum Stop {
+    /// The bytes are at their end.
+    Need,
+    /// The bytes are refused.
+    Bad(HeaderWhy),
+}
+
+/// The most bytes that a packet header may have.
+pub const LONGEST: usize = 65_536;
+
+impl Stop {
+    /// The answer for so many bytes.
+    pub fn out(self, bytes: usize) -> HeaderOut
+        ensures { result ≡ out_at bytes self }
+    {
+        match self {
+            Stop::Bad(why) => HeaderOut::Bad(why),
+            Stop::Need if bytes < LONGEST => HeaderOut::Need,
+            Stop::Need => HeaderOut::Bad(HeaderWhy::TooLong),
+        }
+    }
+}
