@@ -7,6 +7,7 @@
 
 mod layout;
 mod tree;
+mod writing;
 
 pub use tree::{Tree, TreeOut};
 
