@@ -6,3 +6,4 @@ pub mod WriteLemmas
 pub mod WayLemmas
 pub mod FillLemmas
 pub mod LeafBits
+pub mod LabelLemmas

@@ -93,3 +93,25 @@ leaf_bits step g labels before s = bits_down step g labels before s (root_level 
 pub record Writes {A : Type 0} (bits : List Bool) (old new : Pen) (before after : List ℕ) (out : Result A Full) : Type 0 where
   pub full : (done : List Bool) → HasWritten done before old → IsErr out ↔ (length before < reach (done ++ bits))
   pub stands : IfOk out (λ _. (done : List Bool) → HasWritten done before old → HasWritten (done ++ bits) after new)
+
+-- what a call writes of a leaf at this column and row, by the bits of a node, whatever labels the tree holds and leaves it met
+abbrev pub WritesLeaf : (ℕ → ℕ → List Bool) → ℕ → ℕ → Grove → Pen → Pen → List ℕ → List ℕ → Result (Unit {0}) Full → Type 0
+WritesLeaf step col row t old new before after out =
+    (labels : Labels) (earlier : List Seat) → Holds t labels → HasMet t earlier
+    → Writes (leaf_bits step (grid_of t) labels earlier (record { band = 0; col = col; row = row })) old new before after out
+
+-- the same from this level down, where the node above it has this label and those above were met
+abbrev pub WritesDown : (ℕ → ℕ → List Bool) → ℕ → ℕ → ℕ → ℕ → Grove → Pen → Pen → List ℕ → List ℕ → Result (Unit {0}) Full → Type 0
+WritesDown step level above col row t old new before after out =
+    (g : Grid) (labels : Labels) (earlier : List Seat) → root_level g ≡ t.root → Holds t labels → HasMetFrom t earlier (record { band = 0; col = col; row = row }) (level + 1)
+    → above ≡ parent_label g labels level (record { band = 0; col = col; row = row })
+    → Writes (bits_down step g labels earlier (record { band = 0; col = col; row = row }) level) old new before after out
+
+-- a tree that became another met one leaf more, in whatever band it counts it
+abbrev pub MeetsLeaf : ℕ → ℕ → Grove → Grove → Type 0
+MeetsLeaf col row t u = (band : ℕ) (earlier : List Seat) → HasMet t earlier → HasMet u (earlier ++ record { band = band; col = col; row = row } ∷ [])
+
+-- the same from this level down
+abbrev pub MeetsDown : ℕ → ℕ → ℕ → Grove → Grove → Type 0
+MeetsDown level col row t u =
+    (band : ℕ) (earlier : List Seat) → HasMetFrom t earlier (record { band = band; col = col; row = row }) (level + 1) → HasMetFrom u earlier (record { band = band; col = col; row = row }) 0

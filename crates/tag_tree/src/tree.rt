@@ -64,7 +64,7 @@ pub struct Tree {
     pub(crate) rows: u32,
     /// The root's level, where the leaves have level 0.
     pub(crate) root: u32,
-    /// The labels of the nodes; 0 where a node wasn't met.
+    /// The labels of the nodes; without a `fill`, 0 where a node wasn't met.
     pub(crate) labels: Vec<u8>,
     /// Whether a node was met.
     pub(crate) met: Vec<bool>,

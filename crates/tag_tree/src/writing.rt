@@ -1,10 +1,7 @@
 //! The writing half: labels from the leaves, and the bits of each leaf.
-ghost use Rattle.std.specs.Prelude.{◌≡◌, ◌<◌, ◌≤◌, ◌+◌, ◌*◌, ◌++◌, ℕ, [], ◌∷◌, List, length, drop, not, slice_index, slice_index_or, IfOk, if◌then◌else◌};
-ghost use Rattle.codestream_model.specs.TagTrees.{Seat, Labels, parent_label, root_level};
-ghost use Rattle.codestream_model.specs.Values.{Grid};
-ghost use Rattle.tag_tree.specs.Places.{place_of};
+ghost use Rattle.std.specs.Prelude.{◌≡◌, ◌<◌, ◌≤◌, ◌*◌, [], length, drop, slice_index, IfOk};
 ghost use Rattle.tag_tree.specs.LeafReading.{Knows, IsSameShape};
-ghost use Rattle.tag_tree.specs.LeafWriting.{Holds, HoldsLeast, HasMet, HasMetFrom, IsLowered, Writes, grid_of, lowered_at, marked_at, node_bits, inclusion_step, value_step, step_of, bits_down, leaf_bits};
+ghost use Rattle.tag_tree.specs.LeafWriting.{HoldsLeast, HasMet, IsLowered, Writes, WritesLeaf, WritesDown, MeetsLeaf, MeetsDown, lowered_at, marked_at, node_bits, inclusion_step, value_step, step_of};
 
 use crate::layout::place;
 use crate::tree::Tree;
@@ -82,9 +79,10 @@ impl Tree {
         }
     }
 
-    /// Sets the leaves, in raster order, and each node's label to the least below it. No leaf was read or set since `reset`.
+    /// Sets the leaves, in raster order, and gives each node the least label below it.
     ///
-    /// The writers need it: between one `reset` and the next they follow a `fill`, and the readers don't.
+    /// There are as many leaves as the grid has. Between one `reset` and the next it comes first and once, and only one of the
+    /// writers follows it. The readers need none.
     pub fn fill(&mut self, leaves: &[u8])
         requires leaves { length leaves.now ≡ self.old.cols * self.old.rows }
         requires fresh { Knows self.old [] }
@@ -150,8 +148,8 @@ impl Tree {
         requires col_in { col < self.old.cols }
         requires row_in { row < self.old.rows }
         requires inside { bits.old.len ≤ length buf.old }
-        ensures bits { (g : Grid) (labels : Labels) (before : List Seat) → root_level g ≡ self.old.root → Holds self.old labels → HasMetFrom self.old before (record { band = 0; col = col; row = row }) (level + 1) → above ≡ parent_label g labels level (record { band = 0; col = col; row = row }) → Writes (bits_down (step_of kind) g labels before (record { band = 0; col = col; row = row }) level) bits.old bits.new buf.old buf.new result }
-        ensures met { IfOk result (λ _. (band : ℕ) (before : List Seat) → HasMetFrom self.old before (record { band = band; col = col; row = row }) (level + 1) → HasMetFrom self.new before (record { band = band; col = col; row = row }) 0) }
+        ensures bits { WritesDown (step_of kind) level above col row self.old bits.old bits.new buf.old buf.new result }
+        ensures met { IfOk result (λ _. MeetsDown level col row self.old self.new) }
         ensures labels { self.new.labels ≡ self.old.labels }
         ensures same { IsSameShape self.old self.new }
         ensures onward { bits.old.len ≤ bits.new.len }
@@ -166,8 +164,8 @@ impl Tree {
         self.put_path(kind, level - 1, label, col, row, bits, buf)
     }
 
-    /// Writes a leaf of the inclusion tree: of each node on its path that no leaf before it met a bit, 1 for the label 0, if
-    /// its parent's is 0.
+    /// Writes a leaf of the inclusion tree, 0 where it is included, else 1: of each node on its path that no leaf before it met
+    /// a bit, 1 for the label 0, if the label above is 0.
     ///
     /// `buf` is as the call before left it.
     ///
@@ -184,8 +182,8 @@ impl Tree {
         requires col_in { col < self.old.cols }
         requires row_in { row < self.old.rows }
         requires inside { bits.old.len ≤ length buf.old }
-        ensures bits { (labels : Labels) (before : List Seat) → Holds self.old labels → HasMet self.old before → Writes (leaf_bits inclusion_step (grid_of self.old) labels before (record { band = 0; col = col; row = row })) bits.old bits.new buf.old buf.new result }
-        ensures met { IfOk result (λ _. (band : ℕ) (before : List Seat) → HasMet self.old before → HasMet self.new (before ++ record { band = band; col = col; row = row } ∷ [])) }
+        ensures bits { WritesLeaf inclusion_step col row self.old bits.old bits.new buf.old buf.new result }
+        ensures met { IfOk result (λ _. MeetsLeaf col row self.old self.new) }
         ensures labels { self.new.labels ≡ self.old.labels }
         ensures same { IsSameShape self.old self.new }
         ensures onward { bits.old.len ≤ bits.new.len }
@@ -196,7 +194,7 @@ impl Tree {
     }
 
     /// Writes a leaf of the value tree: of each node on its path that no leaf before it met a zero for each number that its
-    /// label is above its parent's, and a one.
+    /// label is above its parent's, and a one; the root's parent counts as 0.
     ///
     /// `buf` is as the call before left it.
     ///
@@ -213,8 +211,8 @@ impl Tree {
         requires col_in { col < self.old.cols }
         requires row_in { row < self.old.rows }
         requires inside { bits.old.len ≤ length buf.old }
-        ensures bits { (labels : Labels) (before : List Seat) → Holds self.old labels → HasMet self.old before → Writes (leaf_bits value_step (grid_of self.old) labels before (record { band = 0; col = col; row = row })) bits.old bits.new buf.old buf.new result }
-        ensures met { IfOk result (λ _. (band : ℕ) (before : List Seat) → HasMet self.old before → HasMet self.new (before ++ record { band = band; col = col; row = row } ∷ [])) }
+        ensures bits { WritesLeaf value_step col row self.old bits.old bits.new buf.old buf.new result }
+        ensures met { IfOk result (λ _. MeetsLeaf col row self.old self.new) }
         ensures labels { self.new.labels ≡ self.old.labels }
         ensures same { IsSameShape self.old self.new }
         ensures onward { bits.old.len ≤ bits.new.len }
