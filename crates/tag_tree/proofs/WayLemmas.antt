@@ -10,6 +10,7 @@ use Rattle.codestream_model.specs.TagTrees.{Seat, Labels, label, parent_label, s
 use Rattle.codestream_model.proofs.TreeLemmas.{either, same_number, shared, or_false}
 use Rattle.tag_tree.specs.Places.{place_of}
 use Rattle.tag_tree.specs.Grove.{Grove}
+use Rattle.tag_tree.specs.LeafReading.{IsSameShape}
 use Rattle.tag_tree.specs.LeafWriting.{IsOn, Holds, HasMet, HasMetFrom, held, is_met, marked_at, node_bits, bits_down}
 use Rattle.tag_tree.proofs.PlaceLemmas.{levels_apart, same_node}
 use Rattle.tag_tree.proofs.KnowLemmas.{set_other, apart}
@@ -92,7 +93,7 @@ none_on_way t before s m = record {
 pub all_on_way : (t : Grove) (before : List Seat) (s : Seat) → HasMetFrom t before s 0 → HasMet t (before ++ s ∷ [])
 all_on_way t before s m = record { each = λ l u on low. m.upper l u on (omega arith) low }
 
--- the labels stay
+-- a tree that keeps its shape and its labels holds what it held
 pub still_holds : (t u : Grove) (labels : Labels) → u.labels ≡ t.labels → u.cols ≡ t.cols → u.rows ≡ t.rows → u.root ≡ t.root → Holds t labels → Holds u labels
 still_holds t u labels e c r o h = record {
   each = λ level s on low.
@@ -100,6 +101,9 @@ still_holds t u labels e c r o h = record {
       let same : held u level s ≡ held t level s = rw (e, c, r) refl in
       same ∙ h.each level s here (rw o at low);
 }
+
+pub holds_after : (t u : Grove) (labels : Labels) → IsSameShape t u → u.labels ≡ t.labels → Holds t labels → Holds u labels
+holds_after t u labels same e h = still_holds t u labels e same.cols same.rows same.root h
 
 -- the bits of a node, by the labels and the leaves before
 abbrev pub first_bits : (ℕ → ℕ → List Bool) → Grid → Labels → List Seat → Seat → ℕ → List Bool

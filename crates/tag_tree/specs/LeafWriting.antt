@@ -12,7 +12,7 @@ use Rattle.tag_tree.specs.Grove.{Grove}
 use Rattle.tag_tree.specs.declared.writing.Kind.{Kind}
 use Rattle.tag_tree.specs.declared.writing.Kind.TheVariants.{Inclusion, Value}
 
--- a tree's grid, as that of a band
+-- a tree's grid, in a band of number 0
 abbrev pub grid_of : Grove → Grid
 grid_of t = record { band = 0; cols = t.cols; rows = t.rows }
 
@@ -56,18 +56,19 @@ pub record IsLowered (before after : Grove) (leaf : Seat) (label from : ℕ) : T
   pub upper : (level : ℕ) (s : Seat) → IsOn before s → from < level → level ≤ before.root → held after level s ≡ held before level s
   pub lower : (level : ℕ) (s : Seat) → IsOn before s → level ≤ from → level ≤ before.root → held after level s ≡ (if shares level s leaf then min (held before level s) label else held before level s)
 
--- the tree behind a label at a place that was lowered, and behind a node that was met
+-- a tree whose label at a place was lowered to this one
 abbrev pub lowered_at : Grove → ℕ → ℕ → Grove
 lowered_at t place v = record t { labels = slice_set t.labels place (min (slice_index t.labels place) v) }
 
+-- a tree whose node at a place was met
 abbrev pub marked_at : Grove → ℕ → Grove
 marked_at t place = record t { met = slice_set t.met place true }
 
--- the bits of a node, if it wasn't met
+-- the bits of the node at a place, by those of its step from the label above; none if it was met
 abbrev pub node_bits : (ℕ → ℕ → List Bool) → Grove → ℕ → ℕ → List Bool
 node_bits step t place above = if slice_index_or t.met place false then [] else step above (slice_index t.labels place)
 
--- the bits of a node of the inclusion tree, by its parent's label and its own: under a 0 one bit, 1 for 0 and 0 for more
+-- the bits of a node of the inclusion tree, by its parent's label and its own: where the parent's is 0 one bit, 1 for 0 and 0 for more
 abbrev pub inclusion_step : ℕ → ℕ → List Bool
 inclusion_step above label = if above == 0 then (label == 0) ∷ [] else []
 
@@ -100,18 +101,18 @@ WritesLeaf step col row t old new before after out =
     (labels : Labels) (earlier : List Seat) → Holds t labels → HasMet t earlier
     → Writes (leaf_bits step (grid_of t) labels earlier (record { band = 0; col = col; row = row })) old new before after out
 
--- the same from this level down, where the node above it has this label and those above were met
+-- the same from this level down, where the nodes above it were met already and the lowest of them has this label
 abbrev pub WritesDown : (ℕ → ℕ → List Bool) → ℕ → ℕ → ℕ → ℕ → Grove → Pen → Pen → List ℕ → List ℕ → Result (Unit {0}) Full → Type 0
 WritesDown step level above col row t old new before after out =
     (g : Grid) (labels : Labels) (earlier : List Seat) → root_level g ≡ t.root → Holds t labels → HasMetFrom t earlier (record { band = 0; col = col; row = row }) (level + 1)
     → above ≡ parent_label g labels level (record { band = 0; col = col; row = row })
     → Writes (bits_down step g labels earlier (record { band = 0; col = col; row = row }) level) old new before after out
 
--- a tree that became another met one leaf more, in whatever band it counts it
+-- from one tree to the other the leaf at this column and row was met, behind those met before it, whatever band it is in
 abbrev pub MeetsLeaf : ℕ → ℕ → Grove → Grove → Type 0
 MeetsLeaf col row t u = (band : ℕ) (earlier : List Seat) → HasMet t earlier → HasMet u (earlier ++ record { band = band; col = col; row = row } ∷ [])
 
--- the same from this level down
+-- the same, where the nodes above this level were met already
 abbrev pub MeetsDown : ℕ → ℕ → ℕ → Grove → Grove → Type 0
 MeetsDown level col row t u =
     (band : ℕ) (earlier : List Seat) → HasMetFrom t earlier (record { band = band; col = col; row = row }) (level + 1) → HasMetFrom u earlier (record { band = band; col = col; row = row }) 0

@@ -3,7 +3,6 @@ ghost use Rattle.std.specs.Prelude.{◌≡◌, ◌<◌, ◌≤◌, ◌*◌, [], 
 ghost use Rattle.tag_tree.specs.LeafReading.{Knows, IsSameShape};
 ghost use Rattle.tag_tree.specs.LeafWriting.{HoldsLeast, HasMet, IsLowered, Writes, WritesLeaf, WritesDown, MeetsLeaf, MeetsDown, lowered_at, marked_at, node_bits, inclusion_step, value_step, step_of};
 
-use crate::layout::place;
 use crate::tree::Tree;
 use stuffed_bits::{BitWriter, Full};
 
