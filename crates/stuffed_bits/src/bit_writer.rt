@@ -90,6 +90,7 @@ impl BitWriter {
         ensures full { (bits : List Bool) → HasWritten bits buf.old self.old → IsErr result ↔ (length buf.old < reach (bits ++ bit ∷ [])) }
         ensures stands { IfOk result (λ _. (bits : List Bool) → HasWritten bits buf.old self.old → HasWritten (bits ++ bit ∷ []) buf.new self.new) }
         ensures begun { IfOk result (λ _. 0 < self.new.len) }
+        ensures onward { self.old.len ≤ self.new.len }
         ensures within { self.new.len ≤ length buf.new }
         ensures behind { drop self.new.len buf.new ≡ drop self.new.len buf.old }
         ensures unchanged { IfErr result (λ _. (self.new ≡ self.old) × (buf.new ≡ buf.old)) }

@@ -25,7 +25,7 @@ knows_nothing t n m labels met = record {
 }
 
 -- an item that is set leaves the others
-set_other : {A : Type 0} (xs : List A) (i j : ℕ) (x d : A) → i ≢ j → slice_index_or (slice_set xs i x) j d ≡ slice_index_or xs j d
+pub set_other : {A : Type 0} (xs : List A) (i j : ℕ) (x d : A) → i ≢ j → slice_index_or (slice_set xs i x) j d ≡ slice_index_or xs j d
 set_other [] i j x d h = refl
 set_other (y ∷ xs) zero zero x d h = absurd (h refl)
 set_other (y ∷ xs) zero (suc j) x d h = refl
@@ -46,7 +46,7 @@ told_elsewhere t place other v h =
     rw (m, l) refl
 
 -- levels that differ
-apart : (l m : ℕ) → l ≢ m → (l < m) ⊎ (m < l)
+pub apart : (l m : ℕ) → l ≢ m → (l < m) ⊎ (m < l)
 apart zero zero h = absurd (h refl)
 apart zero (suc m) h = inl (omega arith)
 apart (suc l) zero h = inr (omega arith)

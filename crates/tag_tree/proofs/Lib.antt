@@ -1,3 +1,9 @@
-pub mod PlaceLemmas
-pub mod KnowLemmas
 pub mod AnswerLemmas
+pub mod KnowLemmas
+pub mod PlaceLemmas
+pub mod ReachLemmas
+pub mod WriteLemmas
+pub mod WayLemmas
+pub mod FillLemmas
+pub mod LeafBits
+pub mod LabelLemmas

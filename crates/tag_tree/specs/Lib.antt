@@ -1,3 +1,4 @@
 pub mod Places
 pub mod Grove
 pub mod LeafReading
+pub mod LeafWriting

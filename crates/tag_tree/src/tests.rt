@@ -1,7 +1,7 @@
 //! Labels that were worked out by hand from the bits.
 use super::*;
 use std::alloc::AllocError;
-use stuffed_bits::{BitIn, BitOut};
+use stuffed_bits::{BitIn, BitOut, BitWriter, Full};
 
 #[test]
 fn the_standards_example_is_read(rt: HostRuntime) -> Result<(), AllocError> {
@@ -95,5 +95,72 @@ fn a_stuffed_byte_gives_no_label(rt: HostRuntime) -> Result<(), AllocError> {
         TreeOut::Stuffed
     );
     assert_eq!(rt; at, 1);
+    Ok(())
+}
+
+/// The leaf values of the standard's example (T.800 B.10.2), row by row.
+const EXAMPLE: [u8; 18] = [1, 3, 2, 3, 2, 3, 2, 2, 1, 4, 3, 2, 2, 2, 2, 2, 1, 2];
+
+#[test]
+fn the_standards_example_is_written(rt: HostRuntime) -> Result<(), AllocError> {
+    // The first three leaves have the bits 01111, 001 and 101.
+    let mut tree = Tree::reserve(rt.alloc(), 18)?;
+    tree.reset(6, 3);
+    tree.fill(&EXAMPLE);
+    let mut bits = BitWriter::new();
+    let mut buf = [0x55u8; 3];
+    assert_eq!(rt; tree.write_value(0, 0, &mut bits, &mut buf), Ok(()));
+    assert_eq!(rt; tree.write_value(1, 0, &mut bits, &mut buf), Ok(()));
+    assert_eq!(rt; buf, [0x79, 0x55, 0x55]);
+    assert_eq!(rt; tree.write_value(1, 0, &mut bits, &mut buf), Ok(()));
+    assert_eq!(rt; tree.write_value(2, 0, &mut bits, &mut buf), Ok(()));
+    assert_eq!(rt; buf, [0x79, 0xA0, 0x55]);
+    Ok(())
+}
+
+#[test]
+fn a_leaf_that_reaches_past_the_buffer_is_full(rt: HostRuntime) -> Result<(), AllocError> {
+    let mut tree = Tree::reserve(rt.alloc(), 18)?;
+    tree.reset(6, 3);
+    tree.fill(&EXAMPLE);
+    let mut bits = BitWriter::new();
+    let mut buf = [0x55u8];
+    assert_eq!(rt; tree.write_value(0, 0, &mut bits, &mut buf), Ok(()));
+    assert_eq!(rt; tree.write_value(1, 0, &mut bits, &mut buf), Ok(()));
+    assert_eq!(rt; tree.write_value(2, 0, &mut bits, &mut buf), Err(Full));
+    Ok(())
+}
+
+/// The leaves of an inclusion tree of 5 columns and 3 rows, row by row: three code-blocks are included.
+const INCLUDED: [u8; 15] = [1, 0, 1, 1, 1, 1, 1, 1, 1, 0, 0, 1, 1, 1, 1];
+
+#[test]
+fn an_inclusion_tree_is_written_and_read_back(rt: HostRuntime) -> Result<(), AllocError> {
+    // Behind a bit 1, leaf by leaf: 1110, 1, 0, none, 110; 0, 0, none, none, 1; 11, 0, 0, none, 0.
+    let mut tree = Tree::reserve(rt.alloc(), 15)?;
+    tree.reset(5, 3);
+    tree.fill(&INCLUDED);
+    let mut bits = BitWriter::new();
+    let mut buf = [0x55u8; 4];
+    assert_eq!(rt; bits.put(true, &mut buf), Ok(()));
+    for leaf in 0..15u32 {
+        assert_eq!(rt;
+            tree.write_inclusion(leaf % 5, leaf / 5, &mut bits, &mut buf),
+            Ok(())
+        );
+    }
+    assert_eq!(rt; buf, [0xF5, 0x8E, 0x00, 0x55]);
+    tree.reset(5, 3);
+    let mut reader = BitIn::new();
+    let mut at = 0;
+    assert_eq!(rt; reader.bit(&buf, &mut at), BitOut::Bit(true));
+    for (leaf, label) in INCLUDED.iter().enumerate() {
+        let leaf = leaf as u32;
+        assert_eq!(rt;
+            tree.read_inclusion(leaf % 5, leaf / 5, &mut reader, &buf, &mut at),
+            TreeOut::Value(*label)
+        );
+    }
+    assert_eq!(rt; at, 3);
     Ok(())
 }

@@ -60,14 +60,14 @@ fn inclusion_label(included: bool) -> u8
 pub struct Tree {
     /// How many leaves there is room for.
     leaves: u32,
-    cols: u32,
-    rows: u32,
+    pub(crate) cols: u32,
+    pub(crate) rows: u32,
     /// The root's level, where the leaves have level 0.
-    root: u32,
-    /// The labels of the nodes; 0 where a node wasn't met.
-    labels: Vec<u8>,
+    pub(crate) root: u32,
+    /// The labels of the nodes; without a `fill`, 0 where a node wasn't met.
+    pub(crate) labels: Vec<u8>,
     /// Whether a node was met.
-    met: Vec<bool>,
+    pub(crate) met: Vec<bool>,
 }
 
 impl Model for Tree {
@@ -123,7 +123,7 @@ impl Tree {
     }
 
     /// Where the node of a level on a leaf's path stands.
-    fn place(&self, level: u32, col: u32, row: u32) -> usize
+    pub(crate) fn place(&self, level: u32, col: u32, row: u32) -> usize
         requires low { level ≤ self.now.root }
         requires col_in { col < self.now.cols }
         requires row_in { row < self.now.rows }
