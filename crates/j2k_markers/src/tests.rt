@@ -1,5 +1,6 @@
 //! Headers and refusals that were worked out by hand, and the headers of two encoders.
 mod headers;
+mod pairs;
 
 ghost use Rattle.std.specs.Prelude.{◌≡◌, ◌≤◌, []};
 
@@ -503,6 +504,22 @@ fn the_least_and_the_greatest_values_are_taken(rt: HostRuntime) -> Result<(), Al
                 0, 0, 0, 1,
             ],
         ),
+        // the greatest height, and the last place of the greatest image alone
+        taken(
+            12,
+            32,
+            &[
+                0x7F, 0xFF, 0xFF, 0xFF, 0, 0, 0, 0, 0, 0, 0, 0, 0, 0, 0, 1, 0x7F, 0xFF, 0xFF, 0xFF,
+            ],
+        ),
+        taken(
+            8,
+            40,
+            &[
+                0x7F, 0xFF, 0xFF, 0xFF, 0x7F, 0xFF, 0xFF, 0xFF, 0x7F, 0xFF, 0xFF, 0xFE, 0x7F, 0xFF,
+                0xFF, 0xFE, 0, 0, 0, 1, 0, 0, 0, 1, 0x7F, 0xFF, 0xFF, 0xFE, 0x7F, 0xFF, 0xFF, 0xFE,
+            ],
+        ),
         taken(
             4,
             45,
@@ -522,6 +539,23 @@ fn the_least_and_the_greatest_values_are_taken(rt: HostRuntime) -> Result<(), Al
                 0x48, 0x48, 0x48, 0x48, 0x48, 0x48, 0x48, 0x48, 0x48, 0x48, 0x48, 0x48, 0x48, 0x48,
                 0x48, 0x48, 0x48, 0x48, 0x48, 0x48, 0x48, 0x48, 0x48, 0x48, 0x48, 0x48, 0x48, 0x48,
                 0x48, 0x48, 0x48, 0x48, 0x48, 0x48, 0x48, 0x48, 0x48, 0x48, 0x48, 0x48,
+            ],
+        ),
+        // precincts of 1 by 1 and of 2^15 by 2^15 at resolution 0, and of 2 by 2 and of 2^15 by 2^15 above it
+        taken(
+            57,
+            75,
+            &[
+                0, 14, 1, 3, 0, 1, 0, 1, 4, 4, 0x40, 1, 0x00, 0x11, 0xFF, 0x5C, 0, 7, 0x40, 0x48,
+                0x48, 0x48, 0x48,
+            ],
+        ),
+        taken(
+            57,
+            75,
+            &[
+                0, 14, 1, 3, 0, 1, 0, 1, 4, 4, 0x40, 1, 0xFF, 0xFF, 0xFF, 0x5C, 0, 7, 0x40, 0x48,
+                0x48, 0x48, 0x48,
             ],
         ),
         taken(65, 67, &[8, 0]),
