@@ -176,7 +176,7 @@ block_parts s planes passes lblock cleanup refine bits mp ml mc rest b p l c r e
       seat = refl;
       same = refl;
       limits = λ h. record { planes = h; some_passes = p.1; few_passes = p.2; some_cleanup = c.2; short_cleanup = c.3; short_refine = r.3; no_refine = r.2 };
-      fits = record { least = l.1; cleanup = c.1; refine = r.1 };
+      fits = record { least = l.1; cleanup = c.1; refine = r.1; none = r.2 };
       low = l.2;
     } in
     let P : Block → Type 0 = λ x. BlockBack s planes bits rest x in

@@ -41,3 +41,7 @@ pub mod WorkedPacketHeaders
 pub mod OneBlock
 pub mod WorkedPackets
 pub mod WorkedRefusals
+pub mod PieceRuns
+pub mod StopLemmas
+pub mod JudgedPieces
+pub mod JudgedRuns

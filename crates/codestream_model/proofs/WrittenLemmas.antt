@@ -194,6 +194,7 @@ lblock_fits b l =
               let up : 2 ^ exponent (b.refine + 1) ≤ 2 ^ (least_lblock b + 1) = pow-le-pow_right (omega arith) (fits_more b) in
               rw t.0 (omega (arith, r.0))
         ];
+        none = l.no_refine;
       },
       lblock_low b c_low r_low,
     )
