@@ -18,7 +18,7 @@ use Rattle.codestream_model.proofs.SeatLemmas.{all-append, all-behind, all-map, 
 use Rattle.codestream_model.proofs.GridLemmas.{CanRead, OwnBlock, IsGrid, pieces-append, seats_read}
 
 -- a list that becomes two parts has two parts that become these
-map_split : {X Y : Type 0} (f : X → Y) (xs : List X) (ys zs : List Y) → map f xs ≡ ys ++ zs → (front : List X) × (back : List X) × (xs ≡ front ++ back) × (map f front ≡ ys) × (map f back ≡ zs)
+pub map_split : {X Y : Type 0} (f : X → Y) (xs : List X) (ys zs : List Y) → map f xs ≡ ys ++ zs → (front : List X) × (back : List X) × (xs ≡ front ++ back) × (map f front ≡ ys) × (map f back ≡ zs)
 map_split f xs [] zs e = ([], xs, refl, refl, e)
 map_split f [] (y ∷ ys) zs e = absurd (cc)
 map_split f (x ∷ xs) (y ∷ ys) zs e =
@@ -66,7 +66,7 @@ own_of g choices [] a p c = tt
 own_of g choices (b ∷ own) a p c = (record { band = a.0; planes = p.0 a.0; can_read = c.0 }, own_of g choices own a.1 p.1 c.1)
 
 -- code-blocks of one band leave those of the others as they are
-still_own : (g : Grid) (blocks own others : List Block) (gs : List Grid) → AllByRecursion (λ (s : Seat). s.band ≡ g.band) (map seat_of own)
+pub still_own : (g : Grid) (blocks own others : List Block) (gs : List Grid) → AllByRecursion (λ (s : Seat). s.band ≡ g.band) (map seat_of own)
     → AllByRecursion (λ (other : Grid). other.band ≢ g.band) gs
     → AllByRecursion (λ (other : Grid). filter (of_band other) blocks ≡ filter (of_band other) (own ++ others)) gs
     → AllByRecursion (λ (other : Grid). filter (of_band other) blocks ≡ filter (of_band other) others) gs

@@ -45,3 +45,5 @@ pub mod PieceRuns
 pub mod StopLemmas
 pub mod JudgedPieces
 pub mod JudgedRuns
+pub mod RunTrees
+pub mod RunGrids
