@@ -47,3 +47,4 @@ pub mod JudgedPieces
 pub mod JudgedRuns
 pub mod RunTrees
 pub mod RunGrids
+pub mod RunsFound
