@@ -48,3 +48,4 @@ pub mod JudgedRuns
 pub mod RunTrees
 pub mod RunGrids
 pub mod RunsFound
+pub mod RunBack
