@@ -49,3 +49,4 @@ pub mod RunTrees
 pub mod RunGrids
 pub mod RunsFound
 pub mod RunBack
+pub mod RunSeatsBack

@@ -56,14 +56,14 @@ pub record SeatsBack (g : Grid) (later : List Seat) (inc pl : List Node) (bits :
       → bits ≡ bits_of (flat_map (seat_pieces g choices blocks) later) ++ rest
 
 -- the labels of a grid's leaves are 0 or 1
-leaf_small : (g : Grid) (choices : Choices) (blocks own : List Block) (s : Seat) → IsGrid g choices blocks own → IsSeat g s → label (choices.inclusion g.band) 0 s ≤ 1
+pub leaf_small : (g : Grid) (choices : Choices) (blocks own : List Block) (s : Seat) → IsGrid g choices blocks own → IsSeat g s → label (choices.inclusion g.band) 0 s ≤ 1
 leaf_small g choices blocks own s is i = elim (either (is_included blocks s)) [
   | inl t ↦ omega (arith, is.inclusion.leaves s i ∙ ap (λ (b : Bool). if b then 0 else 1) t)
   | inr t ↦ omega (arith, is.inclusion.leaves s i ∙ ap (λ (b : Bool). if b then 0 else 1) t)
 ]
 
 -- a number that isn't 0
-not_zero : (n : ℕ) → (n == 0) ≡ false → n ≡ 0 → ⊥
+pub not_zero : (n : ℕ) → (n == 0) ≡ false → n ≡ 0 → ⊥
 not_zero n e z = elim (eqb_tells n 0) [ inl t ↦ let c : true ≡ false = sym t.0 ∙ e in cc | inr t ↦ t.1 z ]
 
 -- a seat without a code-block, and what follows it
