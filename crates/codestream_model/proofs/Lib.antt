@@ -50,3 +50,4 @@ pub mod RunGrids
 pub mod RunsFound
 pub mod RunBack
 pub mod RunSeatsBack
+pub mod RunGridsBack
