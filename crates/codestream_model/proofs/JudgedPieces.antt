@@ -61,7 +61,7 @@ planes_fault s why e = elim (leb_tells s.to 74) [
   | inr t ↦ let f : Some ZeroPlanes ≡ Some why = rw t.0 at e in (t.1, cc)
 ]
 
-planes_sound : (s : Step) → IsSound (PlanesPiece s) → s.to ≤ 74
+pub planes_sound : (s : Step) → IsSound (PlanesPiece s) → s.to ≤ 74
 planes_sound s e = elim (leb_tells s.to 74) [
   | inl t ↦ t.1
   | inr t ↦ let f : Some ZeroPlanes ≡ None = rw t.0 at e in absurd (cc)

@@ -51,3 +51,4 @@ pub mod RunsFound
 pub mod RunBack
 pub mod RunSeatsBack
 pub mod RunGridsBack
+pub mod BitsJudged
