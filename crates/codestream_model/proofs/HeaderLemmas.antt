@@ -140,16 +140,15 @@ stuffed_tail b bytes t i e =
     subst P next h
 
 -- stuffed bytes are sound, whatever follows them
-sound_front : (before : ℕ) (bytes more : List ℕ) → (before ≡ 255 → slice_index bytes 0 < 128) → IsStuffed bytes → (b : ℕ) × (sound_after before (bytes ++ more) ≡ bytes ++ sound_after b more)
-unfolding sound_after
-sound_front before [] more first stuffed = (before, refl)
+pub sound_front : (before : ℕ) (bytes more : List ℕ) → (before ≡ 255 → slice_index bytes 0 < 128) → IsStuffed bytes → sound_after before (bytes ++ more) ≡ bytes ++ sound_after (last_after before bytes) more
+unfolding sound_after last_after
+sound_front before [] more first stuffed = refl
 sound_front before (b ∷ bytes) more first stuffed =
-    let r = sound_front b bytes more (stuffed 0) (stuffed_tail b bytes stuffed) in
     let sound : ((before == 255) && nat_le 128 b) ≡ false = elim (eqb_tells before 255) [
       | inl t ↦ let low : b < 128 = first t.1 in rw (t.0, lt-leb 128 b low) refl
       | inr t ↦ rw t.0 refl
     ] in
-    (r.0, rw sound (ap (λ (l : List ℕ). b ∷ l) r.1))
+    rw sound (ap (λ (l : List ℕ). b ∷ l) (sound_front b bytes more (stuffed 0) (stuffed_tail b bytes stuffed)))
 
 -- the bytes that so many bits reach into
 pub bytes_reached : (before : ℕ) (front : List ℕ) (last : ℕ) (more : List ℕ) (n : ℕ) → length (carried_after before front) < n → n ≤ length (carried_after before (front ++ last ∷ []))
@@ -215,12 +214,12 @@ header_read_by grids blocks bytes more h reads =
     let room : 65536 ≡ length bytes + (65536 - length bytes) = omega (arith, h.short) in
     let m = take (65536 - length bytes) more in
     let e1 : take 65536 (bytes ++ more) ≡ bytes ++ m = ap (λ (n : ℕ). take n (bytes ++ more)) room ∙ take-append-add bytes more (65536 - length bytes) in
-    let r = sound_front 0 bytes m (λ e. absurd (omega arith)) p.stuffed in
+    let l = last_after 0 bytes in
     let c = packed_are_carried h.bits bytes p in
-    let x = c.0 ++ carried_after (last_after 0 bytes) (sound_after r.0 m) in
+    let x = c.0 ++ carried_after l (sound_after l m) in
     let run : readable_bits (bytes ++ more) ≡ h.bits ++ x =
-    ap (λ (l : List ℕ). carried_after 0 (sound_after 0 l)) e1 ∙ (ap (carried_after 0) r.1 ∙ (carried-append 0 bytes (sound_after r.0 m)
-    ∙ (ap (λ (l : List Bool). l ++ carried_after (last_after 0 bytes) (sound_after r.0 m)) c.1 ∙ append_assoc h.bits c.0 (carried_after (last_after 0 bytes) (sound_after r.0 m))))) in
+    ap (λ (l : List ℕ). carried_after 0 (sound_after 0 l)) e1 ∙ (ap (carried_after 0) (sound_front 0 bytes m (λ e. absurd (omega arith)) p.stuffed) ∙ (carried-append 0 bytes (sound_after l m)
+    ∙ (ap (λ (x : List Bool). x ++ carried_after l (sound_after l m)) c.1 ∙ append_assoc h.bits c.0 (carried_after l (sound_after l m))))) in
     let read : read_bits grids (readable_bits (bytes ++ more)) ≡ Got blocks x = ap (read_bits grids) run ∙ reads x in
     let n : length (readable_bits (bytes ++ more)) - length x ≡ length h.bits = omega (arith, ap length run, length-append h.bits x) in
     let all : bytes ++ more ≡ p.front ++ p.last ∷ (p.closing ++ more) = ap (λ (l : List ℕ). l ++ more) p.whole ∙ append_assoc p.front (p.last ∷ p.closing) more in

@@ -52,3 +52,5 @@ pub mod RunBack
 pub mod RunSeatsBack
 pub mod RunGridsBack
 pub mod BitsJudged
+pub mod BytesJudged
+pub mod BytesBack
