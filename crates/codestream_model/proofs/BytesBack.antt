@@ -266,16 +266,16 @@ end_told gs bytes w =
     ]
 
 -- two answers that differ
-done_bad : (used : ℕ) (blocks : List Block) (why : HeaderRefusal) → Done used blocks ≡ Bad why → ⊥
+pub done_bad : (used : ℕ) (blocks : List Block) (why : HeaderRefusal) → Done used blocks ≡ Bad why → ⊥
 done_bad used blocks why e = cc
 
-done_need : (used : ℕ) (blocks : List Block) → Done used blocks ≡ Need → ⊥
+pub done_need : (used : ℕ) (blocks : List Block) → Done used blocks ≡ Need → ⊥
 done_need used blocks e = cc
 
-bad_need : (why : HeaderRefusal) → Bad why ≡ Need → ⊥
+pub bad_need : (why : HeaderRefusal) → Bad why ≡ Need → ⊥
 bad_need why e = cc
 
-one_reason : (why other : HeaderRefusal) → Bad why ≡ Bad other → why ≡ other
+pub one_reason : (why other : HeaderRefusal) → Bad why ≡ Bad other → why ≡ other
 one_reason why other e = cc
 
 -- what is read as refused is refused

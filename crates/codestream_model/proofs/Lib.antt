@@ -54,3 +54,4 @@ pub mod RunGridsBack
 pub mod BitsJudged
 pub mod BytesJudged
 pub mod BytesBack
+pub mod VerdictLemmas

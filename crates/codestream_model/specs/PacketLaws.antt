@@ -52,6 +52,36 @@ NeedsAreRead = (gs : List Grid) (bytes : List ℕ) → HaveOwnBands gs → Needs
 abbrev pub NeedsAreSound : Type 0
 NeedsAreSound = (gs : List Grid) (bytes : List ℕ) → IsBytes bytes → HaveOwnBands gs → header_of gs bytes ≡ Need → NeedsHeaderBytes gs bytes
 
+-- the bytes begin with a header
+abbrev pub BeginWithHeader : List Grid → List ℕ → Type 0
+BeginWithHeader gs bytes = (blocks : List Block) × (header : List ℕ) × (more : List ℕ) × SpellsHeader gs blocks header × (bytes ≡ header ++ more)
+
+-- bytes begin with a header, or are refused, or end before a header does
+abbrev pub PacketHeadersAreJudged : Type 0
+PacketHeadersAreJudged =
+    (gs : List Grid) (bytes : List ℕ) → IsBytes bytes → HaveOwnBands gs
+    → BeginWithHeader gs bytes ⊎ (((why : HeaderRefusal) × RefusesHeader gs bytes why) ⊎ NeedsHeaderBytes gs bytes)
+
+-- one of these three alone holds of bytes, and a refusal has one reason
+pub record HasOneVerdict (gs : List Grid) (bytes : List ℕ) : Type 0 where
+  pub one_reason : (why other : HeaderRefusal) → RefusesHeader gs bytes why → RefusesHeader gs bytes other → why ≡ other
+  pub not_refused : BeginWithHeader gs bytes → (why : HeaderRefusal) → RefusesHeader gs bytes why → ⊥
+  pub not_unfinished : BeginWithHeader gs bytes → NeedsHeaderBytes gs bytes → ⊥
+  pub not_both : (why : HeaderRefusal) → RefusesHeader gs bytes why → NeedsHeaderBytes gs bytes → ⊥
+
+-- so it is with all bytes
+abbrev pub PacketHeadersHaveOneVerdict : Type 0
+PacketHeadersHaveOneVerdict = (gs : List Grid) (bytes : List ℕ) → HaveOwnBands gs → HasOneVerdict gs bytes
+
+-- a refusal stays, whatever follows
+abbrev pub RefusalsStay : Type 0
+RefusalsStay = (gs : List Grid) (bytes more : List ℕ) (why : HeaderRefusal) → RefusesHeader gs bytes why → RefusesHeader gs (bytes ++ more) why
+
+-- a header without its last bytes is unfinished
+abbrev pub HeaderFrontsNeedBytes : Type 0
+HeaderFrontsNeedBytes =
+    (gs : List Grid) (blocks : List Block) (front rest : List ℕ) → HaveOwnBands gs → SpellsHeader gs blocks (front ++ rest) → 1 ≤ length rest → NeedsHeaderBytes gs front
+
 -- bytes begin with one header at most, and it says one thing; so no header is the front of another
 abbrev pub HeadersAreReadOneWay : Type 0
 HeadersAreReadOneWay =
