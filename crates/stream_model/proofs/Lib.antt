@@ -30,3 +30,4 @@ pub mod WorkedReceivers
 pub mod WorkedCommands
 pub mod WorkedQueues
 pub mod CountedFrames
+pub mod PacketsFound
