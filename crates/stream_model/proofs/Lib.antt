@@ -31,3 +31,4 @@ pub mod WorkedCommands
 pub mod WorkedQueues
 pub mod CountedFrames
 pub mod PacketsFound
+pub mod ParsedPackets
