@@ -32,3 +32,4 @@ pub mod WorkedQueues
 pub mod CountedFrames
 pub mod PacketsFound
 pub mod ParsedPackets
+pub mod ParsedInputs

@@ -208,7 +208,7 @@ next_stamp stamp step i =
     mod_then (stamp + i * step) step (2 ^ 32) ∙ ap (λ (n : ℕ). n % 2 ^ 32) e
 
 -- a codestream has bytes
-codestream_long : (h : Head) (content : List Content) (codestream : List ℕ) → SpellsCodestream h content codestream → 2 ≤ length codestream
+pub codestream_long : (h : Head) (content : List Content) (codestream : List ℕ) → SpellsCodestream h content codestream → 2 ≤ length codestream
 codestream_long h content codestream s =
     omega (arith, ap length s.whole, length-append s.head (s.packets ++ 255 ∷ 217 ∷ []), length-append s.packets (255 ∷ 217 ∷ []))
 
@@ -245,7 +245,7 @@ parsed_codestreams n stamp step i (x ∷ said) (c ∷ codestreams) rest a fits =
     ∙ sym (append_assoc here (precincts_from stamp step (i + 1) said) (parsed n (stamp_of stamp step (i + suc (length codestreams))) step rest)))))))
 
 -- a main header has bytes
-head_long : (h : Head) (head : List ℕ) → SpellsHead h head → 1 ≤ length head
+pub head_long : (h : Head) (head : List ℕ) → SpellsHead h head → 1 ≤ length head
 head_long h head s = omega (arith, ap length s.whole)
 
 -- what is refused as a main header gives nothing
