@@ -33,3 +33,4 @@ pub mod CountedFrames
 pub mod PacketsFound
 pub mod ParsedPackets
 pub mod ParsedInputs
+pub mod ReadPackets

@@ -25,7 +25,7 @@ use Rattle.stream_model.specs.Report.{Precinct, lines}
 use Rattle.stream_model.specs.Commands.{Parse, counted, parsed, made}
 use Rattle.stream_model.specs.CommandLaws.{precincts_of, stamp_of, Said, AreCodestreams, precincts_from, BeginsWithHead, BeginsWithPacket, BeginsWithEoc, LacksNext, ArePrecinctsOf, ArePrecinctsBehind, ParseWritesWholePackets, ParseWritesInputs, ParseWritesUpToFault}
 use Rattle.stream_model.proofs.PacketsFound.{own_bands}
-use Rattle.stream_model.proofs.ParsedPackets.{codestream_long, head_long, parsed_codestreams, parsed_rest}
+use Rattle.stream_model.proofs.ParsedPackets.{bytes_behind, codestream_long, head_long, parsed_codestreams, parsed_rest}
 
 -- codestreams are shorter in number than in bytes
 many_bytes : (said : List Said) (codestreams : List (List ℕ)) → AreCodestreams said codestreams → 2 * length codestreams ≤ length (joined codestreams)
@@ -54,11 +54,7 @@ parsed_behind (suc m) k stamp step n rest xs fits e (inl (all, none)) full last 
 parsed_behind zero k stamp step n rest xs fits e (inr (few, are)) full last = sym (none_of_none (stamp_of stamp step n) rest xs (last few refl) are)
 parsed_behind (suc m) k stamp step n rest xs fits e (inr (few, are)) full last = parsed_rest m (stamp_of stamp step n) step rest xs fits are
 
--- bytes behind others are bytes
-bytes_behind : (xs ys : List ℕ) → IsBytes (xs ++ ys) → IsBytes ys
-bytes_behind [] ys t = t
-bytes_behind (x ∷ xs) ys t = bytes_behind xs ys (λ i. t (suc i))
-
+-- no more codestreams than count
 few_or_all : (n : ℕ) (rest : List ℕ) (stamp step : ℕ) (xs : List Precinct) → ArePrecinctsBehind stamp step n rest xs → n ≤ 65536
 few_or_all n rest stamp step xs (inl t) = omega (arith, t.0)
 few_or_all n rest stamp step xs (inr t) = omega (arith, t.0)

@@ -74,7 +74,7 @@ walk_packets h stamp at (p ∷ places) later (x ∷ content) packets rest (front
     ∙ ap (λ (n : ℕ). found_before (precinct ∷ precincts_of h stamp places content) (walk h stamp n later rest)) size))
 
 -- bytes of which the first two are these
-first_two : (bytes : List ℕ) (a b : ℕ) → 2 ≤ length bytes → slice_index bytes 0 ≡ a → slice_index bytes 1 ≡ b → (more : List ℕ) × (bytes ≡ a ∷ b ∷ more)
+pub first_two : (bytes : List ℕ) (a b : ℕ) → 2 ≤ length bytes → slice_index bytes 0 ≡ a → slice_index bytes 1 ≡ b → (more : List ℕ) × (bytes ≡ a ∷ b ∷ more)
 first_two [] a b h e f = absurd (omega arith)
 first_two (x ∷ []) a b h e f = absurd (omega arith)
 first_two (x ∷ y ∷ more) a b h e f =
@@ -97,12 +97,12 @@ psot_right h at e = elim (eqb_tells h.psot 0) [
   ]
 ]
 
-right_psot : (h : Head) (at : ℕ) → IsPsotRight h at → ((h.psot == 0) || (h.psot == at - h.sot)) ≡ true
+pub right_psot : (h : Head) (at : ℕ) → IsPsotRight h at → ((h.psot == 0) || (h.psot == at - h.sot)) ≡ true
 right_psot h at (inl e) = elim (eqb_tells h.psot 0) [ inl t ↦ rw t.0 refl | inr t ↦ absurd (t.1 e) ]
 right_psot h at (inr e) = elim (eqb_tells h.psot (at - h.sot)) [ inl t ↦ rw t.0 (any_true (h.psot == 0)) | inr t ↦ absurd (t.1 e) ]
 
 -- EOC is there where the test says so,
-end_there : (h : Head) (at : ℕ) (bytes : List ℕ) → is_end h at bytes ≡ true → BeginsWithEoc h at bytes
+pub end_there : (h : Head) (at : ℕ) (bytes : List ℕ) → is_end h at bytes ≡ true → BeginsWithEoc h at bytes
 end_there h at bytes e =
     let psot = (h.psot == 0) || (h.psot == at - h.sot) in
     let long = nat_le 2 (length bytes) in
@@ -113,12 +113,16 @@ end_there h at bytes e =
     let r = and_parts psot long q.0 in
     (psot_right h at r.0, first_two bytes 255 217 (leb-true 2 (length bytes) r.1) (equal_number (slice_index bytes 0) 255 q.1) (equal_number (slice_index bytes 1) 217 p.1))
 
--- and the walk of a codestream ends with it
-walk_end : (h : Head) (stamp at : ℕ) (more : List ℕ) → IsPsotRight h at → walk h stamp at [] (255 ∷ 217 ∷ more) ≡ record { precincts = []; whole = true; rest = more }
-unfolding walk
-walk_end h stamp at more e =
+-- and the test says so where it is
+pub end_tested : (h : Head) (at : ℕ) (more : List ℕ) → IsPsotRight h at → is_end h at (255 ∷ 217 ∷ more) ≡ true
+end_tested h at more e =
     let long : nat_le 2 (length (255 ∷ 217 ∷ more)) ≡ true = le-leb 2 (length (255 ∷ 217 ∷ more)) (omega arith) in
     rw (right_psot h at e, long) refl
+
+-- the walk of a codestream ends with it
+walk_end : (h : Head) (stamp at : ℕ) (more : List ℕ) → IsPsotRight h at → walk h stamp at [] (255 ∷ 217 ∷ more) ≡ record { precincts = []; whole = true; rest = more }
+unfolding walk
+walk_end h stamp at more e = ap (λ (b : Bool). if b then record { precincts = []; whole = true; rest = drop 2 (255 ∷ 217 ∷ more) } else stopped (255 ∷ 217 ∷ more)) (end_tested h at more e)
 
 -- where what should follow isn't there the walk stops
 walk_lacks : (h : Head) (stamp at : ℕ) (later : List Place) (rest : List ℕ) → IsBytes rest → LacksNext h later at rest → walk h stamp at later rest ≡ stopped rest
@@ -131,7 +135,7 @@ walk_lacks h stamp at (p ∷ later) rest fits lacks =
     walk_none h stamp at p later rest (found_packet h p rest) refl (λ blocks header size e. lacks (found_sound h p rest blocks header size fits e))
 
 -- the packet order of a main header
-order_is : (h : Head) (head : List ℕ) (places : List Place) → SpellsHead h head → IsBytes head → IsPacketOrder h places → packet_order h ≡ places
+pub order_is : (h : Head) (head : List ℕ) (places : List Place) → SpellsHead h head → IsBytes head → IsPacketOrder h places → packet_order h ≡ places
 order_is h head places s fits order =
     let limits = header_is_within_limits h head fits s in
     let steps = All-weaker IsStep (λ step. (0 < step.x) × (0 < step.y)) (λ step is. (is.some_x, is.some_y)) h.steps limits.each_step in
@@ -202,7 +206,7 @@ mod_then a b m =
     let e : a + b ≡ (a % m + b) + m * (a / m) = omega arith in
     sym (ap (λ (n : ℕ). n % m) e ∙ add-mul-mod_self_left (a % m + b) m (a / m))
 
-next_stamp : (stamp step i : ℕ) → (stamp_of stamp step i + step) % 2 ^ 32 ≡ stamp_of stamp step (i + 1)
+pub next_stamp : (stamp step i : ℕ) → (stamp_of stamp step i + step) % 2 ^ 32 ≡ stamp_of stamp step (i + 1)
 next_stamp stamp step i =
     let e : (stamp + i * step) + step ≡ stamp + (i + 1) * step = grind arith in
     mod_then (stamp + i * step) step (2 ^ 32) ∙ ap (λ (n : ℕ). n % 2 ^ 32) e
@@ -213,7 +217,7 @@ codestream_long h content codestream s =
     omega (arith, ap length s.whole, length-append s.head (s.packets ++ 255 ∷ 217 ∷ []), length-append s.packets (255 ∷ 217 ∷ []))
 
 -- bytes behind others are bytes
-bytes_behind : (xs ys : List ℕ) → IsBytes (xs ++ ys) → IsBytes ys
+pub bytes_behind : (xs ys : List ℕ) → IsBytes (xs ++ ys) → IsBytes ys
 bytes_behind [] ys t = t
 bytes_behind (x ∷ xs) ys t = bytes_behind xs ys (λ i. t (suc i))
 

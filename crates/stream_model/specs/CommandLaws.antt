@@ -71,6 +71,13 @@ ParseWritesWholePackets =
     → stamp < 2 ^ 32 → IsBytes read → counted read ≡ joined codestreams ++ rest → AreCodestreams said codestreams → ArePrecinctsBehind stamp step (length codestreams) rest xs
     → made (Parse stamp step) read ended ≡ lines (precincts_from stamp step 0 said ++ xs)
 
+-- and all bytes that it may have read are so: whole codestreams, and behind them whole packets up to the first that isn't there
+abbrev pub ReadsHaveWholePackets : Type 0
+ReadsHaveWholePackets =
+    (stamp step : ℕ) (read : List ℕ) → IsBytes read
+    → (said : List Said) × (codestreams : List (List ℕ)) × (rest : List ℕ) × (xs : List Precinct)
+    × (counted read ≡ joined codestreams ++ rest) × AreCodestreams said codestreams × ArePrecinctsBehind stamp step (length codestreams) rest xs
+
 -- of an input of whole codestreams it writes the lines of all their packets, in order
 abbrev pub ParseWritesInputs : Type 0
 ParseWritesInputs =

@@ -9,7 +9,10 @@ mod command_laws;
 mod laws;
 mod receiver_laws;
 
-pub use command_laws::{parse_writes_inputs, parse_writes_up_to_fault, parse_writes_whole_packets};
+pub use command_laws::{
+    parse_writes_inputs, parse_writes_up_to_fault, parse_writes_whole_packets,
+    reads_have_whole_packets,
+};
 pub use laws::{
     base_is_least, base_never_falls, below_base_is_decided, body_has_byte, chunks_are_full,
     closed_stays, cut_is_stream, due_grows, events_are_one, in_time_is_computed, in_time_is_listed,
