@@ -55,3 +55,4 @@ pub mod BitsJudged
 pub mod BytesJudged
 pub mod BytesBack
 pub mod VerdictLemmas
+pub mod LimitLemmas
