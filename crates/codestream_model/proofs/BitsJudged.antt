@@ -1,19 +1,18 @@
 -- What is read of bits: it is refused where a piece is refused, and at its end where bits end in a piece, and nowhere else.
-use Rattle.std.proofs.Common.{◌≡◌, ◌<◌, ◌≤◌, ◌⊎◌, ◌+◌, ◌-◌, ℕ, suc, Bool, true, false, List, [], ◌∷◌, ◌++◌, length, take, drop, replicate, Option, Some, None, refl, sym, ◌∙◌, ap, subst, inl, inr, arith, append_assoc}
+use Rattle.std.proofs.Common.{◌≡◌, ◌≤◌, ◌⊎◌, ◌+◌, ◌-◌, ℕ, Bool, true, false, List, [], ◌∷◌, ◌++◌, length, drop, replicate, Option, Some, None, refl, sym, ◌∙◌, ap, subst, inl, inr, arith, append_assoc}
 use Rattle.std.specs.List.{AllByRecursion}
 use Rattle.std.proofs.lemmas.List.{append-nil, append_cancel_left, length-append, length-replicate, take_all, take-append-drop}
 use Rattle.codestream_model.specs.Values.{Grid, Block}
 use Rattle.codestream_model.specs.HeaderPieces.{HeaderRefusal, Piece, InclusionPiece, PlanesPiece, PassesPiece, LblockPiece, CleanupPiece, RefinePiece, run_of, piece_bits, fault_of, IsSound, deciding_bits, bits_of, header_pieces}
 use Rattle.codestream_model.specs.PacketHeader.{HaveOwnBands, EndsInPiece, HasFault}
-use Rattle.codestream_model.specs.PacketHeaderReading.{Read, Got, AtEnd, Refused, read_grids, read_bits}
+use Rattle.codestream_model.specs.PacketHeaderReading.{Got, AtEnd, Refused, read_grids, read_bits}
 use Rattle.codestream_model.proofs.OneWayLemmas.{fronts}
-use Rattle.codestream_model.proofs.PieceRuns.{GridsRun}
-use Rattle.codestream_model.proofs.StopLemmas.{StopsIn, Stops, stop, Judged}
+use Rattle.codestream_model.proofs.StopLemmas.{StopsIn, Stops, stop}
 use Rattle.codestream_model.proofs.JudgedPieces.{planes_sound, lblock_sound}
 use Rattle.codestream_model.proofs.JudgedRuns.{AreLimited, grids_judged}
 use Rattle.codestream_model.proofs.RunGrids.{header_run}
-use Rattle.codestream_model.proofs.RunsFound.{Ends, IsRising, Found, grids_found}
-use Rattle.codestream_model.proofs.RunGridsBack.{HasPieces, grids_say}
+use Rattle.codestream_model.proofs.RunsFound.{Ends, IsRising, grids_found}
+use Rattle.codestream_model.proofs.RunGridsBack.{HasPieces, run_says}
 
 -- of a piece that isn't refused all bits decide
 run_length : (b last : Bool) (n : ℕ) → length (run_of b n last) ≡ n + 1
@@ -144,15 +143,15 @@ end_read grids bits bands h =
     ap (read_bits grids) h.whole ∙ (first_bit grids (bits_of h.before ++ h.part) ∙ j.stops (bits_of h.before ++ h.part) None s)
 
 -- what is read of the bits behind the first, and why
-record BitsTold (grids : List Grid) (bits : List Bool) : Type 0 where
-  blocks : List Block
-  pieces : List Piece
-  header : HasPieces grids blocks pieces
-  told :
-      ((rest : List Bool) × (read_grids grids bits ≡ Got blocks rest))
+pub record BitsTold (grids : List Grid) (bits : List Bool) : Type 0 where
+  pub blocks : List Block
+  pub pieces : List Piece
+  pub header : HasPieces grids blocks pieces
+  pub told :
+      ((rest : List Bool) × (read_grids grids bits ≡ Got blocks rest) × (bits ≡ bits_of pieces ++ rest) × AllByRecursion IsSound pieces × AreLimited blocks)
       ⊎ ((r : Option HeaderRefusal) × Stops pieces bits r × (read_grids grids bits ≡ stop r))
 
-bits_told : (grids : List Grid) (bits : List Bool) → HaveOwnBands grids → BitsTold grids bits
+pub bits_told : (grids : List Grid) (bits : List Bool) → HaveOwnBands grids → BitsTold grids bits
 unfolding StopOrWhole
 bits_told grids bits bands =
     let f = grids_found grids bits in
@@ -160,9 +159,9 @@ bits_told grids bits bands =
     record {
       blocks = f.value;
       pieces = f.pieces;
-      header = grids_say grids f.pieces f.value bands f.run;
+      header = run_says grids f.pieces f.value bands f.run;
       told = elim (stop_or_whole f.pieces bits f.rising f.ends) [
-        | inl t ↦ inl (t.1.0, ap (read_grids grids) t.1.1 ∙ (j.sound t.0).1 t.1.0)
+        | inl t ↦ let s = j.sound t.0 in inl (t.1.0, ap (read_grids grids) t.1.1 ∙ s.1 t.1.0, t.1.1, t.0, s.0)
         | inr t ↦ inr (t.0, t.1, j.stops bits t.0 t.1)
       ];
     }

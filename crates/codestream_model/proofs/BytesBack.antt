@@ -1,21 +1,21 @@
 -- What is read of bytes as refused is refused, and what is read as unfinished wants another byte.
-use Rattle.std.proofs.Common.{◌≡◌, ◌≢◌, ◌<◌, ◌≤◌, ◌⊎◌, ◌+◌, ◌-◌, ◌==◌, ◌&&◌, ℕ, zero, suc, Bool, true, false, List, [], ◌∷◌, ◌++◌, length, take, drop, nat_le, nat_lt, slice_index, Option, Some, None, refl, sym, ◌∙◌, ap, subst, inl, inr, arith, append_assoc, if◌then◌else◌}
+use Rattle.std.proofs.Common.{◌≡◌, ◌≢◌, ◌<◌, ◌≤◌, ◌+◌, ◌-◌, ◌==◌, ◌&&◌, ℕ, suc, Bool, true, false, List, [], ◌∷◌, ◌++◌, length, take, drop, nat_le, nat_lt, slice_index, Some, None, refl, sym, ◌∙◌, ap, subst, inl, inr, arith, append_assoc, if◌then◌else◌}
 use Rattle.std.proofs.lemmas.Bool.{and_parts, le-leb, leb-true, leb-false}
 use Rattle.std.proofs.lemmas.Bool.Decides.{eqb_tells}
 use Rattle.std.proofs.lemmas.List.{append-nil, length-append, length-take, take_all, take-append-drop}
 use Rattle.codestream_model.specs.Values.{Grid, Block}
 use Rattle.codestream_model.specs.Bytes.{IsBytes}
-use Rattle.codestream_model.specs.StuffedBits.{IsStuffed, width_after, number_bits, carried_after, carried, sound_after, packed_bits, bytes_of_bits}
+use Rattle.codestream_model.specs.StuffedBits.{IsStuffed, width_after, number_bits, carried_after, carried, sound_after, bytes_of_bits}
 use Rattle.codestream_model.specs.HeaderPieces.{HeaderRefusal, Stuffed, ZeroPlanes, Passes, LengthBits, CleanupShort, CleanupLong, RefineLong, TooLong, Piece, InclusionPiece, PlanesPiece, PassesPiece, LblockPiece, CleanupPiece, RefinePiece, fault_of}
-use Rattle.codestream_model.specs.PacketHeader.{HaveOwnBands, HeaderBits, WantsMore, IsTooLong, IsBrokenStuffing, HasFault, IsRefusedPiece, RefusesHeader, NeedsHeaderBytes}
-use Rattle.codestream_model.specs.PacketHeaderReading.{HeaderReading, Done, Need, Bad, Read, Got, AtEnd, Refused, read_bits, end_by, at_end, closed_by, readable_bits, answer_of, header_of}
+use Rattle.codestream_model.specs.PacketHeader.{HaveOwnBands, WantsMore, IsTooLong, IsBrokenStuffing, IsRefusedPiece, RefusesHeader, NeedsHeaderBytes}
+use Rattle.codestream_model.specs.PacketHeaderReading.{Done, Need, Bad, Read, Got, AtEnd, Refused, read_bits, end_by, at_end, closed_by, readable_bits, header_of}
 use Rattle.codestream_model.specs.PacketLaws.{RefusalsAreSound, NeedsAreSound}
 use Rattle.codestream_model.proofs.BitLemmas.{number_bits-length}
 use Rattle.codestream_model.proofs.PackingLemmas.{last_after, width-ge}
 use Rattle.codestream_model.proofs.TreeLemmas.{either, equal_number}
 use Rattle.codestream_model.proofs.HeaderLemmas.{bytes_reached, byte_behind, second_behind}
 use Rattle.codestream_model.proofs.BytesLemmas.{sound_split, split_bits, bytes_front}
-use Rattle.codestream_model.proofs.SoundLemmas.{BitsSay, bits_say}
+use Rattle.codestream_model.proofs.SoundLemmas.{bits_say}
 use Rattle.codestream_model.proofs.BitsJudged.{refused_back, at_end_back}
 use Rattle.codestream_model.proofs.BytesJudged.{answer_by, end_is}
 

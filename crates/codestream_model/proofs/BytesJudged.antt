@@ -1,20 +1,16 @@
 -- What is read of bytes: it is refused, or wants another byte, exactly where the definitions say so.
-use Rattle.std.proofs.Common.{◌≡◌, ◌≢◌, ◌<◌, ◌≤◌, ◌⊎◌, ◌+◌, ◌-◌, ◌==◌, ◌&&◌, ℕ, zero, suc, Bool, true, false, List, [], ◌∷◌, ◌++◌, length, take, drop, nat_le, nat_lt, slice_index, Option, Some, None, refl, sym, ◌∙◌, ap, subst, inl, inr, arith, append_assoc, if◌then◌else◌}
-use Rattle.std.specs.List.{AllByRecursion}
-use Rattle.std.proofs.lemmas.Bool.{le-leb, lt-leb, leb-true, leb-false}
-use Rattle.std.proofs.lemmas.Bool.Decides.{eqb_tells}
-use Rattle.std.proofs.lemmas.List.{append-nil, length-append, length-take, take_all, take-append-drop}
+use Rattle.std.proofs.Common.{◌≡◌, ◌≤◌, ◌+◌, ◌-◌, ◌==◌, ◌&&◌, ℕ, suc, Bool, true, false, List, [], ◌∷◌, ◌++◌, length, take, nat_le, nat_lt, slice_index, Some, None, refl, sym, ◌∙◌, ap, inl, inr, arith, append_assoc, if◌then◌else◌}
+use Rattle.std.proofs.lemmas.Bool.{le-leb, lt-leb}
+use Rattle.std.proofs.lemmas.List.{append-nil, length-append, take_all}
 use Rattle.std.proofs.Math.Seq.{take-append-add}
 use Rattle.codestream_model.specs.Values.{Grid, Block}
-use Rattle.codestream_model.specs.Bytes.{IsBytes}
-use Rattle.codestream_model.specs.StuffedBits.{IsStuffed, width_after, number_bits, carried_after, carried, sound_after, packed_bits, bytes_of_bits}
+use Rattle.codestream_model.specs.StuffedBits.{IsStuffed, carried_after, carried, sound_after, bytes_of_bits}
 use Rattle.codestream_model.specs.HeaderPieces.{HeaderRefusal, Stuffed, ZeroPlanes, Passes, LengthBits, CleanupShort, CleanupLong, RefineLong, TooLong, bits_of, deciding_bits}
-use Rattle.codestream_model.specs.PacketHeader.{HaveOwnBands, HeaderBits, LacksClosing, WantsMore, IsTooLong, IsBrokenStuffing, HasFault, IsRefusedPiece, RefusesHeader, NeedsHeaderBytes}
-use Rattle.codestream_model.specs.PacketHeaderReading.{HeaderReading, Done, Need, Bad, Read, Got, AtEnd, Refused, read_bits, end_by, at_end, closed_by, readable_bits, answer_of, header_of}
+use Rattle.codestream_model.specs.PacketHeader.{HaveOwnBands, LacksClosing, WantsMore, IsTooLong, IsBrokenStuffing, HasFault, IsRefusedPiece}
+use Rattle.codestream_model.specs.PacketHeaderReading.{Need, Bad, Read, Got, AtEnd, Refused, read_bits, end_by, at_end, closed_by, readable_bits, answer_of, header_of}
 use Rattle.codestream_model.specs.PacketLaws.{RefusalsAreRead, NeedsAreRead}
-use Rattle.codestream_model.proofs.BitLemmas.{number_bits-length}
 use Rattle.codestream_model.proofs.PackingLemmas.{last_after, carried-append}
-use Rattle.codestream_model.proofs.TreeLemmas.{either, and_false}
+use Rattle.codestream_model.proofs.TreeLemmas.{and_false}
 use Rattle.codestream_model.proofs.HeaderLemmas.{sound_front, bits_read, bytes_reached, byte_behind}
 use Rattle.codestream_model.proofs.BitsJudged.{fault_read, end_read}
 

@@ -1,17 +1,14 @@
 -- What the reader makes of each kind of piece.
-use Rattle.std.proofs.Common.{◌≡◌, ◌≢◌, ◌<◌, ◌≤◌, ◌+◌, ◌-◌, ◌^◌, ◌==◌, ℕ, zero, suc, Bool, true, false, List, [], ◌∷◌, ◌++◌, length, take, Option, Some, None, nat_le, nat_lt, refl, sym, ◌∙◌, ap, subst, inl, inr, arith, append_assoc, if◌then◌else◌}
-use Rattle.std.specs.List.{AllByRecursion}
+use Rattle.std.proofs.Common.{◌≡◌, ◌≢◌, ◌<◌, ◌≤◌, ◌+◌, ◌-◌, ◌^◌, ℕ, zero, suc, Bool, true, false, List, [], ◌∷◌, ◌++◌, length, take, Option, Some, None, nat_le, nat_lt, refl, sym, ◌∙◌, ap, inl, inr, arith, if◌then◌else◌}
 use Rattle.std.proofs.lemmas.Bool.{le-leb, lt-leb, leb-false}
 use Rattle.std.proofs.lemmas.Bool.Decides.{eqb_tells, leb_tells}
-use Rattle.std.proofs.lemmas.List.{append-nil, length-append, length-take, take-append-drop}
-use Rattle.codestream_model.specs.Values.{Block}
+use Rattle.std.proofs.lemmas.List.{length-append, length-take}
 use Rattle.codestream_model.specs.StuffedBits.{number_bits}
 use Rattle.codestream_model.specs.TagTrees.{Step}
-use Rattle.codestream_model.specs.HeaderPieces.{HeaderRefusal, ZeroPlanes, Passes, LengthBits, CleanupShort, CleanupLong, RefineLong, Piece, InclusionPiece, PlanesPiece, PassesPiece, LblockPiece, CleanupPiece, RefinePiece, run_of, passes_code, piece_bits, fault_of, IsSound, deciding_bits, bits_of, refine_width}
+use Rattle.codestream_model.specs.HeaderPieces.{HeaderRefusal, ZeroPlanes, Passes, LengthBits, CleanupShort, CleanupLong, RefineLong, InclusionPiece, PlanesPiece, PassesPiece, LblockPiece, CleanupPiece, RefinePiece, run_of, fault_of, IsSound, refine_width}
 use Rattle.codestream_model.specs.PacketHeaderReading.{Read, Got, AtEnd, Refused, and_then, unless, read_bit, read_label, read_passes, read_lblock, read_number, read_cleanup, read_refine}
 use Rattle.codestream_model.proofs.BitLemmas.{number_bits-length}
 use Rattle.codestream_model.proofs.ReadingLemmas.{label_read, lblock_read, passes_read, number_read, refine_pieces}
-use Rattle.codestream_model.proofs.TreeLemmas.{either}
 use Rattle.codestream_model.proofs.StopLemmas.{StopsIn, stop, Judged, judged_none, judged_same, judged_one}
 
 -- a front of one bit that isn't all
@@ -77,9 +74,9 @@ pub label_judged : (s : Step) → s.from ≤ 74 → s.from ≤ s.to → Judged (
 label_judged s low up =
     judged_one (read_label s.from) (λ v. v ≤ 74) (PlanesPiece s) s.to
     (λ h.
-        let top : s.to ≤ 74 = planes_sound s h in
-        let sum : s.from + (s.to - s.from) ≡ s.to = omega arith in
-        (top, λ more. label_read (s.to - s.from) s.from more (omega arith) ∙ ap (λ (n : ℕ). Got n more) sum))
+    let top : s.to ≤ 74 = planes_sound s h in
+    let sum : s.from + (s.to - s.from) ≡ s.to = omega arith in
+    (top, λ more. label_read (s.to - s.from) s.from more (omega arith) ∙ ap (λ (n : ℕ). Got n more) sum))
     (label_stops s low up)
 
 -- an Lblock is at its end in any front that doesn't decide it,
@@ -131,9 +128,9 @@ pub lblock_judged : (n : ℕ) → 3 ≤ n → Judged (read_lblock 3) (λ v. v �
 lblock_judged n low =
     judged_one (read_lblock 3) (λ v. v ≤ 24) (LblockPiece n) n
     (λ h.
-        let top : n ≤ 24 = lblock_sound n h in
-        let sum : 3 + (n - 3) ≡ n = omega arith in
-        (top, λ more. lblock_read (n - 3) 3 more (omega arith) ∙ ap (λ (k : ℕ). Got k more) sum))
+    let top : n ≤ 24 = lblock_sound n h in
+    let sum : 3 + (n - 3) ≡ n = omega arith in
+    (top, λ more. lblock_read (n - 3) 3 more (omega arith) ∙ ap (λ (k : ℕ). Got k more) sum))
     (lblock_stops n low)
 
 -- fronts of the codes of coding passes
@@ -213,8 +210,8 @@ pub cleanup_judged : (width n : ℕ) → n < 2 ^ width → Judged (read_cleanup 
 cleanup_judged width n fits =
     judged_one (read_cleanup width) (λ v. (2 ≤ v) × (v < 65535)) (CleanupPiece width n) n
     (λ h.
-        let t = cleanup_tests (nat_lt n 2) (nat_le 65535 n) h in
-        ((omega (arith, leb-false (suc n) 2 t.0), leb-false 65535 n t.1), λ more. rw (number_read width n more fits, t.0, t.1) refl))
+    let t = cleanup_tests (nat_lt n 2) (nat_le 65535 n) h in
+    ((omega (arith, leb-false (suc n) 2 t.0), leb-false 65535 n t.1), λ more. rw (number_read width n more fits, t.0, t.1) refl))
     (cleanup_stops width n fits)
 
 -- a refinement length, by the test of its limit
@@ -254,5 +251,5 @@ refine_judged passes lblock n some fits none = elim (eqb_tells passes 1) [
       let more : nat_le passes 1 ≡ false = lt-leb passes 1 (omega arith) in
       let same = λ (bits : List Bool). let e : read_refine passes lblock bits ≡ read_some (refine_width passes lblock) bits = rw more refl in e in
       rw t.0 (judged_same (read_refine passes lblock) (read_some (refine_width passes lblock)) (λ v. v < 2047) (RefinePiece (refine_width passes lblock) n ∷ []) n same
-          (some_judged (refine_width passes lblock) n (fits one)))
+      (some_judged (refine_width passes lblock) n (fits one)))
 ]

@@ -1,5 +1,5 @@
 -- What the reader makes of runs of pieces: it gets their value where all are sound, and stops where bits stop in them.
-use Rattle.std.proofs.Common.{◌≡◌, ◌<◌, ◌≤◌, ◌/◌, ◌^◌, ◌==◌, ◌&&◌, ℕ, Bool, true, false, List, [], ◌∷◌, ◌++◌, Some, None, append_assoc, refl, sym, ◌∙◌, ap, subst, inl, inr, arith, if◌then◌else◌}
+use Rattle.std.proofs.Common.{◌≡◌, ◌<◌, ◌≤◌, ◌/◌, ◌^◌, ◌==◌, ◌&&◌, ℕ, Bool, true, false, List, [], ◌∷◌, ◌++◌, Some, None, append_assoc, refl, sym, subst, inl, inr, arith}
 use Rattle.std.specs.List.{AllByRecursion}
 use Rattle.std.proofs.lemmas.List.{append-nil}
 use Rattle.codestream_model.specs.Values.{Grid, Block}
@@ -141,10 +141,10 @@ block_judged lblock b some few fits =
     (λ p. judged_then (read_lblock 3) (with_lblock s b.planes b.passes) (λ v. v ≤ 24) IsLimited (LblockPiece lblock ∷ []) (CleanupPiece lblock b.cleanup ∷ refines) lblock b (lblock_judged lblock fits.least)
     (λ l. judged_then (read_cleanup lblock) (with_cleanup s b.planes b.passes lblock) (λ v. (2 ≤ v) × (v < 65535)) IsLimited (CleanupPiece lblock b.cleanup ∷ []) refines b.cleanup b (cleanup_judged lblock b.cleanup fits.cleanup)
     (λ c.
-        let P : List Piece → Type 0 = λ x. Judged (with_cleanup s b.planes b.passes lblock b.cleanup) IsLimited x b in
-        subst P (append-nil refines) (judged_then (read_refine b.passes lblock) (with_refine s b.planes b.passes b.cleanup) (λ v. v < 2047) IsLimited refines [] b.refine b
-        (refine_judged b.passes lblock b.refine some fits.refine fits.none)
-        (λ r. judged_none IsLimited b (λ h. record { planes = h; some_passes = some; few_passes = p; some_cleanup = c.0; short_cleanup = c.1; short_refine = r; no_refine = fits.none }))))))
+    let P : List Piece → Type 0 = λ x. Judged (with_cleanup s b.planes b.passes lblock b.cleanup) IsLimited x b in
+    subst P (append-nil refines) (judged_then (read_refine b.passes lblock) (with_refine s b.planes b.passes b.cleanup) (λ v. v < 2047) IsLimited refines [] b.refine b
+    (refine_judged b.passes lblock b.refine some fits.refine fits.none)
+    (λ r. judged_none IsLimited b (λ h. record { planes = h; some_passes = some; few_passes = p; some_cleanup = c.0; short_cleanup = c.1; short_refine = r; no_refine = fits.none }))))))
 
 block_run_judged : (s : Seat) (planes : ℕ) (ps : List Piece) (b : Block) → BlockRun s planes ps b → Judged (read_block s planes) IsLimited ps b
 block_run_judged s planes ps b r =

@@ -1,12 +1,12 @@
 -- The pieces of a header are sound exactly where its code-blocks and its Lblocks are within the limits.
-use Rattle.std.proofs.Common.{◌≡◌, ◌≢◌, ◌≤◌, ◌<◌, ◌-◌, ◌==◌, ◌&&◌, ℕ, zero, suc, Bool, true, false, List, [], ◌∷◌, ◌++◌, map, Option, Some, None, nat_le, nat_lt, refl, sym, ◌∙◌, ap, subst, inl, inr, arith, if◌then◌else◌}
+use Rattle.std.proofs.Common.{◌≡◌, ◌≤◌, ◌<◌, ◌==◌, ◌&&◌, ℕ, zero, suc, Bool, true, List, [], ◌∷◌, map, refl, sym, ◌∙◌, ap, subst, inl, inr, arith, if◌then◌else◌}
 use Rattle.std.specs.List.{AllByRecursion, filter, flat_map}
 use Rattle.std.proofs.lemmas.Bool.{and_parts, le-leb, lt-leb}
 use Rattle.codestream_model.specs.Values.{Grid, Block}
 use Rattle.codestream_model.specs.TagTrees.{Seat, IsSeat, Step, seats, seat_of, label, parent_label, root_level, levels_from, is_first, inclusion_bits, met_first, value_steps}
 use Rattle.codestream_model.specs.HeaderPieces.{Piece, InclusionPiece, PlanesPiece, PassesPiece, LblockPiece, CleanupPiece, RefinePiece, IsSound, Choices, refine_width, stands_at, block_pieces, seat_pieces, header_pieces}
 use Rattle.codestream_model.specs.PacketHeader.{is_included, IsWithinLimits, LabelsPlanes, CanSay}
-use Rattle.codestream_model.proofs.Members.{Has, has_left, has_right, has_parts, has_map, map_has, has_flat_map, flat_map_has, at_member, each_member}
+use Rattle.codestream_model.proofs.Members.{Has, has_right, has_parts, has_map, map_has, has_flat_map, flat_map_has, at_member, each_member}
 use Rattle.codestream_model.proofs.TreeLemmas.{either, equal_number}
 use Rattle.codestream_model.proofs.WalkLemmas.{label-le}
 use Rattle.codestream_model.proofs.SeatLemmas.{seats_are_seats, stands_here}

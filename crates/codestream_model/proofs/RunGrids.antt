@@ -1,5 +1,5 @@
 -- The pieces of a header are a run, if all limits are left aside.
-use Rattle.std.proofs.Common.{◌≡◌, ◌≢◌, ◌≤◌, ◌==◌, ◌&&◌, ℕ, Bool, true, false, not, List, [], ◌∷◌, ◌++◌, map, refl, sym, ◌∙◌, ap, subst, inl, inr, arith, append_assoc, if◌then◌else◌}
+use Rattle.std.proofs.Common.{◌≡◌, ◌≢◌, ◌≤◌, ◌==◌, ℕ, Bool, true, false, not, List, [], ◌∷◌, ◌++◌, map, refl, sym, ◌∙◌, ap, subst, inl, inr, arith, append_assoc, if◌then◌else◌}
 use Rattle.std.specs.List.{AllByRecursion, filter, flat_map, list_any}
 use Rattle.std.proofs.lemmas.List.{append-nil, map-append}
 use Rattle.std.proofs.lemmas.List.Elements.{filter-append}
@@ -13,8 +13,8 @@ use Rattle.codestream_model.proofs.TreeLemmas.{AreDistinct, either, first_is}
 use Rattle.codestream_model.proofs.WalkLemmas.{always, below_zero}
 use Rattle.codestream_model.proofs.SeatLemmas.{all-filter, all-behind, distinct-filter, seats_distinct, seats_are_seats, none_stands}
 use Rattle.codestream_model.proofs.GridLemmas.{KnowsBehind, next_leaf, leaf_known, root_parent, IsGrid, first_here, alone}
-use Rattle.codestream_model.proofs.HeaderLemmas.{map_split, of_band, band_of_seats, other_bands, all_of_band, none_of_band, still_own, same_own}
-use Rattle.codestream_model.proofs.PieceRuns.{PlanesRun, InclusionRun, BlockRun, IncludedRun, SeatsRun, GridsRun}
+use Rattle.codestream_model.proofs.BandLemmas.{map_split, of_band, band_of_seats, other_bands, all_of_band, none_of_band, still_own, same_own}
+use Rattle.codestream_model.proofs.PieceRuns.{PlanesRun, InclusionRun, IncludedRun, SeatsRun, GridsRun}
 use Rattle.codestream_model.proofs.RunTrees.{planes_run, inclusion_run}
 
 -- the pieces of a seat at which no code-block is included

@@ -1,26 +1,24 @@
 -- A run of grids are the pieces of a header that says these code-blocks, if all limits are left aside.
-use Rattle.std.proofs.Common.{◌≡◌, ◌≢◌, ◌≤◌, ◌==◌, ◌&&◌, ◌||◌, ℕ, max, Bool, true, false, List, [], ◌∷◌, ◌++◌, map, Some, refl, sym, ◌∙◌, ap, subst, inl, inr, arith, append_assoc, if◌then◌else◌}
+use Rattle.std.proofs.Common.{◌≡◌, ◌≢◌, ◌≤◌, ◌==◌, ◌&&◌, ◌||◌, ℕ, max, Bool, false, List, [], ◌∷◌, ◌++◌, map, Some, refl, sym, ◌∙◌, ap, subst, inl, inr, arith, append_assoc, if◌then◌else◌}
 use Rattle.std.specs.List.{AllByRecursion, filter, flat_map, list_any}
 use Rattle.std.proofs.lemmas.Bool.Decides.{eqb_tells}
 use Rattle.std.proofs.lemmas.List.{append-nil, map-append}
 use Rattle.std.proofs.lemmas.List.Elements.{filter-append}
 use Rattle.std.proofs.lemmas.List.Folds.{list_any-append}
 use Rattle.codestream_model.specs.Values.{Grid, Block}
-use Rattle.codestream_model.specs.TagTrees.{Seat, Labels, seats, seat_of, label, levels_from, root_level}
+use Rattle.codestream_model.specs.TagTrees.{Seat, Labels, seats, seat_of, label, root_level}
 use Rattle.codestream_model.specs.HeaderPieces.{Piece, Choices, stands_at, seat_pieces, header_pieces}
 use Rattle.codestream_model.specs.PacketHeader.{HaveOwnBands, is_included, FitLengths, LabelsInclusion, LabelsPlanes, CanSay}
 use Rattle.codestream_model.specs.PacketHeaderReading.{Node, known_label}
 use Rattle.codestream_model.proofs.TreeLemmas.{AreDistinct, or_false}
 use Rattle.codestream_model.proofs.SeatLemmas.{all-append, all-map, seats_distinct, seats_are_seats, stands_here, stands_beside, distinct-filter}
 use Rattle.codestream_model.proofs.GridLemmas.{IsGrid}
-use Rattle.codestream_model.proofs.HeaderLemmas.{of_band, band_of_seats, all_of_band, none_of_band}
+use Rattle.codestream_model.proofs.BandLemmas.{of_band, band_of_seats, all_of_band, none_of_band}
 use Rattle.codestream_model.proofs.NodeLemmas.{AreNodes, label_in, label_known, label_small, labels_never_fall}
-use Rattle.codestream_model.proofs.WalkBack.{Agrees, IsUp, IsBelowZero}
-use Rattle.codestream_model.proofs.SeatBack.{Picked, HaveLblocks}
 use Rattle.codestream_model.proofs.PickLemmas.{picked_band, picked_tells, picked_seats, TellsIncluded, seat_member}
 use Rattle.codestream_model.proofs.PieceRuns.{GridsRun}
-use Rattle.codestream_model.proofs.RunBack.{AreBelow}
-use Rattle.codestream_model.proofs.RunSeatsBack.{CanHave, SeatsRunBack, seats_run_back}
+use Rattle.codestream_model.proofs.RunTreesBack.{Agrees, IsUp, IsBelowZero, AreBelow}
+use Rattle.codestream_model.proofs.RunSeatsBack.{Picked, HaveLblocks, CanHave, SeatsRunBack, seats_run_back}
 
 -- the greatest label of nodes
 highest : List Node → ℕ
@@ -306,8 +304,8 @@ pub record HasPieces (gs : List Grid) (blocks : List Block) (ps : List Piece) : 
   pub pieces : ps ≡ header_pieces gs choices blocks
 
 -- a run of all grids are a header's pieces
-pub grids_say : (gs : List Grid) (ps : List Piece) (blocks : List Block) → HaveOwnBands gs → GridsRun gs ps blocks → HasPieces gs blocks ps
-grids_say gs ps blocks bands run =
+pub run_says : (gs : List Grid) (ps : List Piece) (blocks : List Block) → HaveOwnBands gs → GridsRun gs ps blocks → HasPieces gs blocks ps
+run_says gs ps blocks bands run =
     let b = grids_back gs ps blocks run in
     let choices = read_choices gs ps blocks b in
     let r = says_grids choices gs [] ps blocks b bands (read_fits gs ps blocks b bands) (none_before gs) in

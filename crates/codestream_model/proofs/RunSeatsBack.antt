@@ -14,12 +14,23 @@ use Rattle.codestream_model.proofs.WalkLemmas.{always, below_zero}
 use Rattle.codestream_model.proofs.SeatLemmas.{distinct-filter, seats_distinct, none_stands}
 use Rattle.codestream_model.proofs.GridLemmas.{KnowsBehind, next_leaf, leaf_known, root_parent, IsGrid, first_here, alone}
 use Rattle.codestream_model.proofs.NodeLemmas.{Extends, AreNodes}
-use Rattle.codestream_model.proofs.WalkBack.{Agrees, IsBelowZero}
-use Rattle.codestream_model.proofs.SeatBack.{Picked, HaveLblocks, leaf_small, not_zero}
-use Rattle.codestream_model.proofs.PieceRuns.{PlanesRun, InclusionRun, BlockRun, IncludedRun, SeatsRun}
+use Rattle.codestream_model.proofs.PieceRuns.{PlanesRun, InclusionRun, BlockRun, SeatsRun}
 use Rattle.codestream_model.proofs.RunTrees.{planes_pieces, inclusion_pieces}
 use Rattle.codestream_model.proofs.RunGrids.{value_pieces, pieces_out, pieces_in}
-use Rattle.codestream_model.proofs.RunBack.{NodesRise, down, levels_down, PlanesBack, planes_back, InclusionBack, inclusion_back}
+use Rattle.codestream_model.proofs.RunTreesBack.{Agrees, IsBelowZero, NodesRise, levels_down, PlanesBack, planes_back, InclusionBack, inclusion_back}
+
+-- a tree's labels pick these code-blocks from these seats: a seat with label 0 has the next one
+abbrev pub Picked : Labels → List Seat → List Block → Type 0
+Picked labels [] left = left ≡ []
+Picked labels (s ∷ more) left =
+    ((label labels 0 s ≡ 1) × Picked labels more left)
+    ⊎ ((b : Block) × (others : List Block) × (left ≡ b ∷ others) × (seat_of b ≡ s) × (label labels 0 s ≡ 0) × Picked labels more others)
+
+-- code-blocks that have these Lblocks
+abbrev pub HaveLblocks : (Seat → ℕ) → List Block → List ℕ → Type 0
+HaveLblocks f [] ns = Unit {0}
+HaveLblocks f (b ∷ left) [] = ⊥
+HaveLblocks f (b ∷ left) (n ∷ ns) = (f (seat_of b) ≡ n) × HaveLblocks f left ns
 
 -- code-blocks that headers can say with these Lblocks
 abbrev pub CanHave : List Block → List ℕ → Type 0
@@ -45,6 +56,17 @@ pub record SeatsRunBack (g : Grid) (later : List Seat) (inc pl : List Node) (ps 
       → KnowsBehind (root_level g) (below_zero g (choices.inclusion g.band)) (choices.inclusion g.band) earlier inc
       → KnowsBehind (root_level g) always (choices.planes g.band) (map seat_of done) pl
       → ps ≡ flat_map (seat_pieces g choices blocks) later
+
+-- the labels of a grid's leaves are 0 or 1
+leaf_small : (g : Grid) (choices : Choices) (blocks own : List Block) (s : Seat) → IsGrid g choices blocks own → IsSeat g s → label (choices.inclusion g.band) 0 s ≤ 1
+leaf_small g choices blocks own s is i = elim (either (is_included blocks s)) [
+  | inl t ↦ omega (arith, is.inclusion.leaves s i ∙ ap (λ (b : Bool). if b then 0 else 1) t)
+  | inr t ↦ omega (arith, is.inclusion.leaves s i ∙ ap (λ (b : Bool). if b then 0 else 1) t)
+]
+
+-- a number that isn't 0
+not_zero : (n : ℕ) → (n == 0) ≡ false → n ≡ 0 → ⊥
+not_zero n e z = elim (eqb_tells n 0) [ inl t ↦ let c : true ≡ false = sym t.0 ∙ e in cc | inr t ↦ t.1 z ]
 
 -- the levels below the root's parent
 abbrev top : Grid → ℕ

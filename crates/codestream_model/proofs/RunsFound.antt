@@ -1,22 +1,21 @@
 -- Whatever bits are read, they begin with the bits of a run of pieces, or are the front of them.
-use Rattle.std.proofs.Common.{◌≡◌, ◌≢◌, ◌<◌, ◌≤◌, ◌⊎◌, ◌+◌, ◌-◌, ◌^◌, ◌==◌, ℕ, zero, suc, Bool, true, false, not, List, [], ◌∷◌, ◌++◌, length, take, drop, Option, Some, None, refl, sym, ◌∙◌, ap, subst, inl, inr, arith, append_assoc}
+use Rattle.std.proofs.Common.{◌≡◌, ◌≢◌, ◌<◌, ◌≤◌, ◌⊎◌, ◌+◌, ◌-◌, ◌^◌, ◌==◌, ℕ, suc, Bool, true, false, not, List, [], ◌∷◌, ◌++◌, length, drop, refl, sym, ◌∙◌, ap, subst, inl, inr, arith, append_assoc}
 use Rattle.std.specs.List.{AllByRecursion}
 use Rattle.std.proofs.lemmas.Bool.{cases_lt}
 use Rattle.std.proofs.lemmas.Bool.Decides.{eqb_tells}
-use Rattle.std.proofs.lemmas.List.{append-nil, append_cancel_left, length-append, length-take, take-append-drop}
+use Rattle.std.proofs.lemmas.List.{append-nil, take-append-drop}
 use Rattle.std.proofs.Math.Nat.{add-sub_cancel_left}
 use Rattle.codestream_model.specs.Values.{Grid, Block}
 use Rattle.codestream_model.specs.StuffedBits.{number_bits, number_of}
 use Rattle.codestream_model.specs.TagTrees.{Seat, seats, root_level, levels_from}
-use Rattle.codestream_model.specs.HeaderPieces.{HeaderRefusal, Piece, InclusionPiece, PlanesPiece, PassesPiece, LblockPiece, CleanupPiece, RefinePiece, run_of, passes_code, refine_width, piece_bits, fault_of, IsSound, deciding_bits, bits_of}
-use Rattle.codestream_model.specs.PacketHeader.{FitLengths}
-use Rattle.codestream_model.specs.PacketHeaderReading.{Node, node_of, known_label, Walked}
+use Rattle.codestream_model.specs.HeaderPieces.{Piece, InclusionPiece, PlanesPiece, PassesPiece, LblockPiece, CleanupPiece, RefinePiece, run_of, passes_code, refine_width, piece_bits, bits_of}
+use Rattle.codestream_model.specs.PacketHeaderReading.{Node, node_of, known_label}
 use Rattle.codestream_model.proofs.BitLemmas.{padded, number_of-lt, bits_of_number, padded-take, padded-short}
 use Rattle.codestream_model.proofs.ReadingLemmas.{refine_pieces, segment_pieces}
 use Rattle.codestream_model.proofs.TreeLemmas.{either}
 use Rattle.codestream_model.proofs.SeatLemmas.{all-append}
 use Rattle.codestream_model.proofs.NodeLemmas.{known_or}
-use Rattle.codestream_model.proofs.PieceRuns.{PlanesRun, bit_label, InclusionRun, BlockRun, IncludedRun, SeatsRun, GridsRun}
+use Rattle.codestream_model.proofs.PieceRuns.{PlanesRun, bit_label, InclusionRun, BlockRun, SeatsRun, GridsRun}
 use Rattle.codestream_model.proofs.StopLemmas.{bits_of-append}
 
 -- bits begin with all of these, or are a front of them
@@ -79,10 +78,14 @@ passes_found (true ∷ true ∷ true ∷ true ∷ bits) = (6, omega arith, omega
 
 -- a number of so many bits
 number_found : (width : ℕ) (bits : List Bool) → (n : ℕ) × (n < 2 ^ width) × Ends bits (number_bits width n)
-number_found width bits = (number_of width bits, number_of-lt width bits, elim (cases_lt (length bits) width) [
-  | inl h ↦ inr (padded (width - length bits) [], sym (bits_of_number width bits ∙ padded-short width bits (omega arith)))
-  | inr h ↦ inl (drop width bits, sym (ap (λ (l : List Bool). l ++ drop width bits) (bits_of_number width bits ∙ padded-take width bits h) ∙ take-append-drop width bits))
-])
+number_found width bits = (
+  number_of width bits,
+  number_of-lt width bits,
+  elim (cases_lt (length bits) width) [
+    | inl h ↦ inr (padded (width - length bits) [], sym (bits_of_number width bits ∙ padded-short width bits (omega arith)))
+    | inr h ↦ inl (drop width bits, sym (ap (λ (l : List Bool). l ++ drop width bits) (bits_of_number width bits ∙ padded-take width bits h) ∙ take-append-drop width bits))
+  ],
+)
 
 -- a refinement length, where there is one
 refine_found : (passes lblock : ℕ) (bits : List Bool) → (n : ℕ) × (passes ≢ 1 → n < 2 ^ refine_width passes lblock) × (passes ≡ 1 → n ≡ 0) × Ends bits (bits_of (refine_pieces passes lblock n))
@@ -198,8 +201,14 @@ seats_found levels (s ∷ more) inclusion planes bits =
           record {
             pieces = i.pieces ++ (body ++ r.pieces);
             value = b.value ∷ r.value;
-            run = (i.value, i.pieces, body ++ r.pieces, refl, i.run,
-            inr (b.value, r.value, v.value, body, r.pieces, z, refl, refl, record { planes = v.pieces; rest = b.pieces; whole = refl; value_run = v.run; block_run = b.run }, r.run));
+            run = (
+              i.value,
+              i.pieces,
+              body ++ r.pieces,
+              refl,
+              i.run,
+              inr (b.value, r.value, v.value, body, r.pieces, z, refl, refl, record { planes = v.pieces; rest = b.pieces; whole = refl; value_run = v.run; block_run = b.run }, r.run),
+            );
             rising = all-append IsRising i.pieces (body ++ r.pieces) i.rising (all-append IsRising body r.pieces (all-append IsRising v.pieces b.pieces v.rising b.rising) r.rising);
             ends = ends_both bits next.0 i.pieces (body ++ r.pieces) next.1 (subst P (sym (append_assoc v.pieces b.pieces r.pieces)) within);
           }

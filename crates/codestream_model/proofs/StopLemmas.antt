@@ -1,8 +1,8 @@
 -- Where bits stop within pieces: in the middle of one that isn't decided yet, or at one that is refused.
-use Rattle.std.proofs.Common.{◌≡◌, ◌<◌, ◌≤◌, ◌⊎◌, ◌-◌, ℕ, suc, Bool, true, false, List, [], ◌∷◌, ◌++◌, length, take, drop, Option, Some, None, nat_le, nat_lt, refl, sym, ◌∙◌, ap, subst, inl, inr, arith, append_assoc}
+use Rattle.std.proofs.Common.{◌≡◌, ◌≤◌, ◌⊎◌, Bool, List, [], ◌∷◌, ◌++◌, length, Option, Some, None, refl, sym, ◌∙◌, ap, inl, inr, append_assoc}
 use Rattle.std.specs.List.{AllByRecursion}
-use Rattle.std.proofs.lemmas.List.{append-nil, append_cancel_left, take-append-drop}
-use Rattle.codestream_model.specs.HeaderPieces.{HeaderRefusal, Piece, InclusionPiece, PlanesPiece, PassesPiece, LblockPiece, CleanupPiece, RefinePiece, piece_bits, fault_of, IsSound, deciding_bits, bits_of}
+use Rattle.std.proofs.lemmas.List.{append-nil}
+use Rattle.codestream_model.specs.HeaderPieces.{HeaderRefusal, Piece, piece_bits, fault_of, IsSound, deciding_bits, bits_of}
 use Rattle.codestream_model.specs.PacketHeaderReading.{Read, Got, AtEnd, Refused, and_then}
 
 -- the bits stop in a piece: none that decides it is there, or it is refused
@@ -29,6 +29,11 @@ stops_split (p ∷ ps) qs bits r (inr (sound, (more, e, s))) = elim (stops_split
 abbrev pub stop : {A : Type 0} → Option HeaderRefusal → Read A
 stop None = AtEnd
 stop (Some why) = Refused why
+
+-- which is no value
+pub stop_not_got : {A : Type 0} (r : Option HeaderRefusal) (x : A) (rest : List Bool) → stop r ≡ Got x rest → ⊥
+stop_not_got None x rest e = cc
+stop_not_got (Some why) x rest e = cc
 
 -- What a reader makes of pieces: where all are sound it gets this value behind their bits, and where bits stop it stops.
 pub record Judged {A : Type 0} (read : List Bool → Read A) (Good : A → Type 0) (ps : List Piece) (x : A) : Type 0 where

@@ -1,12 +1,12 @@
 -- Of all bytes one thing holds: they begin with a header, or are refused for one reason, or end before a header does.
-use Rattle.std.proofs.Common.{◌≡◌, ◌≤◌, ◌⊎◌, ◌+◌, ℕ, List, [], ◌∷◌, ◌++◌, length, drop, take, refl, sym, ◌∙◌, ap, subst, inl, inr, arith, append_assoc}
+use Rattle.std.proofs.Common.{◌≡◌, ◌⊎◌, ℕ, List, [], ◌∷◌, ◌++◌, length, drop, take, refl, sym, ◌∙◌, ap, inl, inr, arith, append_assoc}
 use Rattle.std.proofs.lemmas.List.{append-nil, length-append, take-append-drop}
-use Rattle.codestream_model.specs.Values.{Grid, Block}
+use Rattle.codestream_model.specs.Values.{Grid}
 use Rattle.codestream_model.specs.Bytes.{IsBytes}
 use Rattle.codestream_model.specs.HeaderPieces.{HeaderRefusal, Stuffed, ZeroPlanes, Passes, LengthBits, CleanupShort, CleanupLong, RefineLong, TooLong}
-use Rattle.codestream_model.specs.PacketHeader.{HaveOwnBands, SpellsHeader, IsRefusedPiece, RefusesHeader, NeedsHeaderBytes}
+use Rattle.codestream_model.specs.PacketHeader.{HaveOwnBands, IsRefusedPiece, RefusesHeader, NeedsHeaderBytes}
 use Rattle.codestream_model.specs.PacketHeaderReading.{HeaderReading, Done, Need, Bad, header_of}
-use Rattle.codestream_model.specs.PacketLaws.{BeginWithHeader, PacketHeadersAreJudged, HasOneVerdict, PacketHeadersHaveOneVerdict, RefusalsStay, HeaderFrontsNeedBytes}
+use Rattle.codestream_model.specs.PacketLaws.{BeginWithHeader, PacketHeadersAreJudged, PacketHeadersHaveOneVerdict, RefusalsStay, HeaderFrontsNeedBytes}
 use Rattle.codestream_model.proofs.BytesLemmas.{bytes_front}
 use Rattle.codestream_model.proofs.HeaderLemmas.{header_read}
 use Rattle.codestream_model.proofs.OneWayLemmas.{one_header}

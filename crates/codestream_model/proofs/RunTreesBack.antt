@@ -1,5 +1,5 @@
 -- A run of a leaf of a tag tree are the pieces that labels give it, whatever labels agree with the nodes that are then known.
-use Rattle.std.proofs.Common.{◌≡◌, ◌≢◌, ◌<◌, ◌≤◌, ◌⊎◌, ◌+◌, ◌==◌, ◌&&◌, ℕ, zero, suc, Bool, true, false, not, List, [], ◌∷◌, ◌++◌, Some, None, refl, sym, ◌∙◌, ap, subst, inl, inr, arith, if◌then◌else◌}
+use Rattle.std.proofs.Common.{◌≡◌, ◌≢◌, ◌≤◌, ◌⊎◌, ◌+◌, ◌==◌, ◌&&◌, ℕ, zero, suc, Bool, true, false, not, List, [], ◌∷◌, Some, None, refl, sym, ◌∙◌, ap, subst, inl, inr, arith, if◌then◌else◌}
 use Rattle.std.specs.List.{AllByRecursion, list_any}
 use Rattle.std.proofs.lemmas.Bool.Decides.{eqb_tells}
 use Rattle.codestream_model.specs.Values.{Grid}
@@ -9,9 +9,20 @@ use Rattle.codestream_model.specs.PacketHeaderReading.{Node, node_of, known_labe
 use Rattle.codestream_model.proofs.TreeLemmas.{either, shared_parent, KnowsTree, keep_node, add_node}
 use Rattle.codestream_model.proofs.WalkLemmas.{label-le, parent-le, parent_below, always, below_zero}
 use Rattle.codestream_model.proofs.NodeLemmas.{Extends, AreNodes, IsAbove, node_own, add_extends, add_node_sound}
-use Rattle.codestream_model.proofs.WalkBack.{Agrees, IsUp, IsBelowZero}
 use Rattle.codestream_model.proofs.PieceRuns.{PlanesRun, bit_label, InclusionRun}
 use Rattle.codestream_model.proofs.RunTrees.{planes_pieces, inclusion_pieces}
+
+-- labels agree with all nodes that are known
+abbrev pub Agrees : Labels → List Node → Type 0
+Agrees labels nodes = (l : ℕ) (t : Seat) (v : ℕ) → known_label l t nodes ≡ Some v → label labels l t ≡ v
+
+-- a label isn't below its parent's
+abbrev pub IsUp : ℕ → ℕ → Type 0
+IsUp u v = u ≤ v
+
+-- a node below a label 0 has any
+abbrev pub IsBelowZero : ℕ → ℕ → Type 0
+IsBelowZero u v = u ≡ 0
 
 -- the levels below this one, down to the leaves'
 abbrev pub down : ℕ → List ℕ
@@ -159,11 +170,11 @@ inclusion_back g s (suc n) from nodes ps w h are is small (inr (inl (e, z, run))
     let ne : from ≢ 0 = λ f. let c : false ≡ true = sym z ∙ ap (λ (k : ℕ). k == 0) f in cc in
     let r = inclusion_back g s n from nodes ps w (omega arith) are (λ f. absurd (ne f)) small run in
     let here = λ (labels : Labels) (never : NeverFalls g labels) (i : IsSeat g s) (low : label labels 0 s ≤ 1) (up : from ≡ parent_label g labels n s).
-        let most : label labels n s ≤ 1 = omega (arith, label-le g labels s never i n (omega arith)) in
-        let least : parent_label g labels n s ≤ label labels n s = parent-le g labels s never i n (omega arith) in
-        let equal : from ≡ label labels n s = omega arith in
-        let k : from ≡ entry g labels n s = equal ∙ sym (entry_is g labels n s (omega arith)) in
-        k in
+    let most : label labels n s ≤ 1 = omega (arith, label-le g labels s never i n (omega arith)) in
+    let least : parent_label g labels n s ≤ label labels n s = parent-le g labels s never i n (omega arith) in
+    let equal : from ≡ label labels n s = omega arith in
+    let k : from ≡ entry g labels n s = equal ∙ sym (entry_is g labels n s (omega arith)) in
+    k in
     record {
       extends = r.extends;
       sound = r.sound;
