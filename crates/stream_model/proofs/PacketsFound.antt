@@ -1,18 +1,17 @@
 -- What `parse` finds where a packet should stand: a whole one exactly where the bytes begin with one.
-use Rattle.std.proofs.Common.{◌≡◌, ◌≢◌, ◌<◌, ◌≤◌, ◌⊎◌, ◌+◌, ◌-◌, ◌*◌, ◌==◌, ℕ, zero, suc, Bool, true, false, List, [], ◌∷◌, ◌++◌, length, take, drop, nat_le, nat_lt, refl, sym, ◌∙◌, ap, subst, inl, inr, arith, append_assoc, if◌then◌else◌}
-use Rattle.std.specs.List.{AllByRecursion, sum_by}
+use Rattle.std.proofs.Common.{◌≡◌, ◌≤◌, ◌+◌, ◌-◌, ◌==◌, ℕ, Bool, true, false, List, [], ◌∷◌, ◌++◌, length, take, drop, nat_le, nat_lt, refl, sym, ◌∙◌, ap, inl, inr, arith, append_assoc, if◌then◌else◌}
 use Rattle.std.proofs.lemmas.Bool.{le-leb, lt-leb, leb-true, leb-false}
-use Rattle.std.proofs.lemmas.List.{append-nil, length-append, length-take, length-drop, take_at, drop_at, take-append-drop}
+use Rattle.std.proofs.lemmas.List.{length-append, length-take, length-drop, take_at, drop_at, take-append-drop}
 use Rattle.codestream_model.specs.Values.{Head, Place, Grid, Block}
 use Rattle.codestream_model.specs.Bytes.{IsBytes}
 use Rattle.codestream_model.specs.Precincts.{grid, grids, part_x, part_y}
-use Rattle.codestream_model.specs.PacketHeader.{HaveOwnBands, SpellsHeader}
+use Rattle.codestream_model.specs.PacketHeader.{HaveOwnBands}
 use Rattle.codestream_model.specs.PacketHeaderReading.{HeaderReading, Done, Need, Bad, header_of}
 use Rattle.codestream_model.specs.Packet.{Content, HasFewBlocks, block_count, segment_bytes, SpellsPacket}
 use Rattle.codestream_model.proofs.TreeLemmas.{either}
 use Rattle.codestream_model.proofs.HeaderLemmas.{header_read}
 use Rattle.codestream_model.proofs.SoundLemmas.{header_sound}
-use Rattle.stream_model.specs.Decoder.{Found, Whole, Part, Other, found_segments, found_header, found_packet}
+use Rattle.stream_model.specs.Decoder.{Whole, Part, Other, found_segments, found_header, found_packet}
 use Rattle.stream_model.specs.CommandLaws.{BeginsWithPacket}
 use Rattle.stream_model.proofs.Found.{packet_has_bytes}
 

@@ -1,6 +1,6 @@
 -- What `parse` writes of whole inputs, and of inputs with a fault.
-use Rattle.std.proofs.Common.{◌≡◌, ◌≢◌, ◌<◌, ◌≤◌, ◌⊎◌, ◌+◌, ◌-◌, ◌*◌, ◌%◌, ◌^◌, ℕ, zero, suc, Bool, true, false, List, [], ◌∷◌, ◌++◌, length, take, min, refl, sym, ◌∙◌, ap, subst, inl, inr, arith, append_assoc}
-use Rattle.std.specs.List.{AllByRecursion, AllZip}
+use Rattle.std.proofs.Common.{◌≡◌, ◌<◌, ◌≤◌, ◌+◌, ◌-◌, ◌*◌, ◌%◌, ◌^◌, ℕ, zero, suc, List, [], ◌∷◌, ◌++◌, length, take, min, refl, sym, ◌∙◌, ap, subst, inl, inr, arith, append_assoc}
+use Rattle.std.specs.List.{AllByRecursion}
 use Rattle.std.proofs.lemmas.Bool.{cases_lt}
 use Rattle.std.proofs.lemmas.List.{append-nil, length-append, length-take, take_all}
 use Rattle.std.proofs.Math.Nat.{mod-eq_of_lt}
@@ -8,22 +8,19 @@ use Rattle.std.proofs.Math.Seq.{take-append-add}
 use Rattle.codestream_model.specs.Values.{Head, Place}
 use Rattle.codestream_model.specs.Bytes.{IsBytes}
 use Rattle.codestream_model.specs.HeadRefusals.{HeadRefusal, Cut as HeadCut}
-use Rattle.codestream_model.specs.MainHeader.{SpellsHead}
 use Rattle.codestream_model.specs.RefusedHeader.{RefusesHead}
 use Rattle.codestream_model.specs.Precincts.{grids}
-use Rattle.codestream_model.specs.HeaderPieces.{HeaderRefusal}
 use Rattle.codestream_model.specs.PacketHeader.{RefusesHeader}
 use Rattle.codestream_model.specs.PacketLaws.{BeginWithHeader}
-use Rattle.codestream_model.specs.Packet.{Content, HasFewBlocks, block_count, segment_bytes, SpellsPacket, BeginsPacket, IsPacketTooLong, LacksSegments, NeedsPacketBytes}
-use Rattle.codestream_model.specs.Codestream.{SpellsCodestream, IsPsotRight, IsCodestream, joined, WalkRefusal, HeadRefused, Cut, TooManyBlocks, HeaderRefused, PacketTooLong, Psot, NoEoc, InputTooLong, TooManyFrames, BeginsCodestream, HoldsAtPacket, HoldsAtEoc, IsOther, RefusesCodestream, NeedsCodestreamBytes, readable, RefusesRest, Faults, IsInput}
-use Rattle.codestream_model.proofs.HeaderReads.{header_is_read_one_way}
+use Rattle.codestream_model.specs.Packet.{HasFewBlocks, block_count, segment_bytes, IsPacketTooLong, LacksSegments, NeedsPacketBytes}
+use Rattle.codestream_model.specs.Codestream.{IsPsotRight, IsCodestream, joined, WalkRefusal, HeadRefused, Cut, TooManyBlocks, HeaderRefused, PacketTooLong, Psot, NoEoc, InputTooLong, TooManyFrames, HoldsAtPacket, HoldsAtEoc, IsOther, RefusesCodestream, NeedsCodestreamBytes, readable, RefusesRest}
 use Rattle.codestream_model.proofs.HeaderJudged.{header_is_not_refused}
 use Rattle.codestream_model.proofs.SegmentBytes.{bytes-take}
 use Rattle.codestream_model.proofs.OneWayLemmas.{one_header}
 use Rattle.codestream_model.proofs.VerdictLemmas.{one_verdict}
 use Rattle.stream_model.specs.Report.{Precinct, lines}
-use Rattle.stream_model.specs.Commands.{Parse, counted, parsed, made}
-use Rattle.stream_model.specs.CommandLaws.{precincts_of, stamp_of, Said, AreCodestreams, precincts_from, BeginsWithHead, BeginsWithPacket, BeginsWithEoc, LacksNext, ArePrecinctsOf, ArePrecinctsBehind, ParseWritesWholePackets, ParseWritesInputs, ParseWritesUpToFault}
+use Rattle.stream_model.specs.Commands.{counted, parsed}
+use Rattle.stream_model.specs.CommandLaws.{precincts_of, stamp_of, Said, AreCodestreams, precincts_from, BeginsWithHead, BeginsWithPacket, BeginsWithEoc, ArePrecinctsOf, ArePrecinctsBehind, ParseWritesWholePackets, ParseWritesInputs, ParseWritesUpToFault}
 use Rattle.stream_model.proofs.PacketsFound.{own_bands}
 use Rattle.stream_model.proofs.ParsedPackets.{bytes_behind, codestream_long, head_long, parsed_codestreams, parsed_rest}
 

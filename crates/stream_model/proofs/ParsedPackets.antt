@@ -1,6 +1,5 @@
 -- What `parse` writes: the lines of whole packets, up to the first that isn't there.
-use Rattle.std.proofs.Common.{◌≡◌, ◌≢◌, ◌<◌, ◌≤◌, ◌⊎◌, ◌+◌, ◌-◌, ◌*◌, ◌/◌, ◌%◌, ◌^◌, ◌==◌, ◌&&◌, ◌||◌, ℕ, zero, suc, Bool, true, false, List, [], ◌∷◌, ◌++◌, length, take, drop, min, nat_le, nat_lt, slice_index, Result, Ok, Err, refl, sym, ◌∙◌, ap, subst, inl, inr, arith, append_assoc, if◌then◌else◌}
-use Rattle.std.specs.List.{AllByRecursion, AllZip, All, flat_map}
+use Rattle.std.proofs.Common.{◌≡◌, ◌≢◌, ◌<◌, ◌≤◌, ◌+◌, ◌-◌, ◌*◌, ◌/◌, ◌%◌, ◌^◌, ◌==◌, ◌&&◌, ◌||◌, ℕ, suc, Bool, true, false, List, [], ◌∷◌, ◌++◌, length, take, drop, nat_le, slice_index, Result, Ok, Err, refl, sym, ◌∙◌, ap, subst, inl, inr, arith, append_assoc, if◌then◌else◌}
 use Rattle.std.proofs.lemmas.Bool.{and_parts, le-leb, leb-true}
 use Rattle.std.proofs.lemmas.Bool.Decides.{eqb_tells}
 use Rattle.std.proofs.lemmas.List.{append-nil, length-append, take-append-drop, drop_at}
@@ -24,8 +23,8 @@ use Rattle.codestream_model.proofs.Orders.{packet_order_is_computed, packet_orde
 use Rattle.codestream_model.proofs.BytesLemmas.{bytes_front}
 use Rattle.stream_model.specs.Report.{Precinct}
 use Rattle.stream_model.specs.Decoder.{Found, Whole, Part, Other, found_packet}
-use Rattle.stream_model.specs.Commands.{Walked, stopped, is_end, walked_end, with_precinct, walk, walk_behind, parsed}
-use Rattle.stream_model.specs.CommandLaws.{precincts_of, stamp_of, Said, AreCodestreams, precincts_from, BeginsWithHead, BeginsWithPacket, BeginsWithEoc, LacksNext, ArePrecinctsOf}
+use Rattle.stream_model.specs.Commands.{Walked, stopped, is_end, with_precinct, walk, walk_behind, parsed}
+use Rattle.stream_model.specs.CommandLaws.{precincts_of, stamp_of, Said, AreCodestreams, precincts_from, BeginsWithHead, BeginsWithEoc, LacksNext, ArePrecinctsOf}
 use Rattle.stream_model.proofs.PacketsFound.{packet_found, segments_taken, found_sound}
 
 -- a walk that has found these precincts before

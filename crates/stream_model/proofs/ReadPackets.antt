@@ -1,29 +1,27 @@
 -- All bytes are whole codestreams, and behind them whole packets up to the first that isn't there.
-use Rattle.std.proofs.Common.{◌≡◌, ◌≢◌, ◌<◌, ◌≤◌, ◌⊎◌, ◌+◌, ◌-◌, ℕ, zero, suc, Bool, true, false, List, [], ◌∷◌, ◌++◌, length, take, drop, Result, Ok, Err, refl, sym, ◌∙◌, ap, subst, inl, inr, arith, append_assoc}
-use Rattle.std.specs.List.{All, AllZip}
-use Rattle.std.proofs.lemmas.List.{append-nil, length-append, take-append-drop}
+use Rattle.std.proofs.Common.{◌≡◌, ◌<◌, ◌⊎◌, ◌+◌, ℕ, zero, suc, true, false, List, [], ◌∷◌, ◌++◌, length, take, drop, Result, Ok, Err, refl, sym, ◌∙◌, ap, subst, inl, inr, arith, append_assoc}
+use Rattle.std.proofs.lemmas.List.{append-nil, take-append-drop}
 use Rattle.std.proofs.lemmas.List.Elements.{All-weaker}
 use Rattle.std.proofs.lemmas.Result.{MatchResult-at_ok}
-use Rattle.codestream_model.specs.Values.{Head, Place, Block}
+use Rattle.codestream_model.specs.Values.{Head, Place}
 use Rattle.codestream_model.specs.Bytes.{IsBytes}
 use Rattle.codestream_model.specs.HeadLimits.{IsStep}
 use Rattle.codestream_model.specs.MainHeader.{SpellsHead}
 use Rattle.codestream_model.specs.MainHeaderReading.{head_of, Refused}
 use Rattle.codestream_model.specs.RefusedHeader.{RefusesHead}
 use Rattle.codestream_model.specs.PacketOrder.{IsPacketOrder, packet_order}
-use Rattle.codestream_model.specs.Packet.{Content, SpellsPacket}
-use Rattle.codestream_model.specs.Codestream.{SpellsPackets, SpellsCodestream, IsPsotRight, BeginsCodestream, joined}
+use Rattle.codestream_model.specs.Packet.{Content}
+use Rattle.codestream_model.specs.Codestream.{SpellsPackets, SpellsCodestream, BeginsCodestream, joined}
 use Rattle.codestream_model.proofs.TreeLemmas.{either}
 use Rattle.codestream_model.proofs.HeaderReads.{header_is_read_one_way}
 use Rattle.codestream_model.proofs.HeaderJudged.{headers_are_judged}
 use Rattle.codestream_model.proofs.HeaderLimits.{header_is_within_limits}
 use Rattle.codestream_model.proofs.Orders.{packet_order_is_computed}
-use Rattle.codestream_model.proofs.BytesLemmas.{bytes_front}
 use Rattle.codestream_model.proofs.SegmentBytes.{bytes-take}
 use Rattle.stream_model.specs.Report.{Precinct}
 use Rattle.stream_model.specs.Decoder.{Found, Whole, Part, Other, found_packet}
 use Rattle.stream_model.specs.Commands.{counted, is_end}
-use Rattle.stream_model.specs.CommandLaws.{precincts_of, stamp_of, Said, AreCodestreams, BeginsWithHead, BeginsWithPacket, BeginsWithEoc, LacksNext, ArePrecinctsOf, ArePrecinctsBehind, ReadsHaveWholePackets}
+use Rattle.stream_model.specs.CommandLaws.{precincts_of, stamp_of, Said, AreCodestreams, BeginsWithPacket, BeginsWithEoc, LacksNext, ArePrecinctsOf, ArePrecinctsBehind, ReadsHaveWholePackets}
 use Rattle.stream_model.proofs.PacketsFound.{packet_found, found_sound}
 use Rattle.stream_model.proofs.ParsedPackets.{end_there, end_tested, bytes_behind}
 

@@ -1,5 +1,5 @@
 -- What is promised of what commands write: `parse` writes the lines of whole packets, up to the first fault.
-use Rattle.std.specs.Prelude.{◌≡◌, ◌<◌, ◌≤◌, ◌⊎◌, ◌+◌, ◌*◌, ◌%◌, ◌^◌, ◌++◌, ℕ, Bool, List, [], ◌∷◌, length}
+use Rattle.std.specs.Prelude.{◌≡◌, ◌<◌, ◌⊎◌, ◌+◌, ◌*◌, ◌%◌, ◌^◌, ◌++◌, ℕ, Bool, List, [], ◌∷◌, length}
 use Rattle.std.specs.List.{AllZip}
 use Rattle.codestream_model.specs.Values.{Head, Place}
 use Rattle.codestream_model.specs.Bytes.{IsBytes}
