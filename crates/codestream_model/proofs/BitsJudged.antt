@@ -18,6 +18,7 @@ use Rattle.codestream_model.proofs.RunGridsBack.{HasPieces, run_says}
 run_length : (b last : Bool) (n : ℕ) → length (run_of b n last) ≡ n + 1
 run_length b last n = omega (arith, length-append (replicate n b) (last ∷ []), length-replicate n b)
 
+-- so the deciding bits are all
 sound_whole : (p : Piece) → IsSound p → IsRising p → deciding_bits p ≡ piece_bits p
 sound_whole (InclusionPiece b) h r = refl
 sound_whole (PlanesPiece s) h r = take_all (75 - s.from) (run_of false (s.to - s.from) true) (omega (arith, run_length false true (s.to - s.from), planes_sound s h, r))
@@ -63,6 +64,7 @@ fault_or None = inr refl
 StopOrWhole : List Piece → List Bool → Type 0
 StopOrWhole ps bits = (AllByRecursion IsSound ps × ((rest : List Bool) × (bits ≡ bits_of ps ++ rest))) ⊎ ((r : Option HeaderRefusal) × Stops ps bits r)
 
+-- behind a sound piece
 behind_sound : (p : Piece) (ps : List Piece) (bits rest : List Bool) → IsSound p → bits ≡ piece_bits p ++ rest → StopOrWhole ps rest → StopOrWhole (p ∷ ps) bits
 unfolding StopOrWhole
 behind_sound p ps bits rest sound e (inl t) = inl ((sound, t.0), (t.1.0, e ∙ (ap (λ (l : List Bool). piece_bits p ++ l) t.1.1 ∙ sym (append_assoc (piece_bits p) (bits_of ps) t.1.0))))
@@ -99,6 +101,7 @@ record StopPlace (ps : List Piece) (bits : List Bool) (r : Option HeaderRefusal)
   here : StopsIn piece part r
   whole : bits ≡ bits_of before ++ part
 
+-- where bits stop there is one
 stop_place : (ps : List Piece) (bits : List Bool) (r : Option HeaderRefusal) → Stops ps bits r → StopPlace ps bits r
 stop_place [] bits r s = absurd s
 stop_place (p ∷ ps) bits r (inl s) = record { before = []; piece = p; after = ps; pieces = refl; sound = tt; part = bits; here = s; whole = refl }
@@ -115,6 +118,7 @@ stop_place (p ∷ ps) bits r (inr (sound, (more, e, s))) =
       whole = e ∙ (ap (λ (l : List Bool). piece_bits p ++ l) n.whole ∙ sym (append_assoc (piece_bits p) (bits_of n.before) n.part));
     }
 
+-- and in one they stop
 place_stops : (before : List Piece) (piece : Piece) (after : List Piece) (part : List Bool) (r : Option HeaderRefusal) → AllByRecursion IsSound before → StopsIn piece part r
     → Stops (before ++ piece ∷ after) (bits_of before ++ part) r
 place_stops [] piece after part r sound here = inl here
@@ -151,6 +155,7 @@ pub record BitsTold (grids : List Grid) (bits : List Bool) : Type 0 where
       ((rest : List Bool) × (read_grids grids bits ≡ Got blocks rest) × (bits ≡ bits_of pieces ++ rest) × AllByRecursion IsSound pieces × AreLimited blocks)
       ⊎ ((r : Option HeaderRefusal) × Stops pieces bits r × (read_grids grids bits ≡ stop r))
 
+-- all bits are told
 pub bits_told : (grids : List Grid) (bits : List Bool) → HaveOwnBands grids → BitsTold grids bits
 unfolding StopOrWhole
 bits_told grids bits bands =
@@ -186,6 +191,7 @@ fault_back grids bits why t (Some other) s e =
       whole = ap (λ (l : List Bool). true ∷ l) (p.whole ∙ ap (λ (l : List Bool). bits_of p.before ++ l) p.here.2);
     }
 
+-- so bits that are refused have a fault
 pub refused_back : (grids : List Grid) (bits : List Bool) (why : HeaderRefusal) → HaveOwnBands grids → read_bits grids bits ≡ Refused why → HasFault grids bits why
 unfolding read_bits
 refused_back grids [] why bands e = absurd (cc)
@@ -218,6 +224,7 @@ end_back grids bits t None s e =
       whole = ap (λ (l : List Bool). true ∷ l) p.whole;
     }
 
+-- so bits that are at their end are none, or end in a piece
 pub at_end_back : (grids : List Grid) (bits : List Bool) → HaveOwnBands grids → read_bits grids bits ≡ AtEnd → (bits ≡ []) ⊎ EndsInPiece grids bits
 unfolding read_bits
 at_end_back grids [] bands e = inl refl

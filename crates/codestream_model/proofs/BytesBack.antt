@@ -47,6 +47,7 @@ unfolding last_after
 last_split before y [] last e = ([], ap (λ (n : ℕ). n ∷ []) e)
 last_split before y (z ∷ xs) last e = let r = last_split y z xs last e in (y ∷ r.0, ap (λ (l : List ℕ). y ∷ l) r.1)
 
+-- bytes of which the last is FF
 ends_in_ff : (xs : List ℕ) → last_after 0 xs ≡ 255 → (front : List ℕ) × (xs ≡ front ++ 255 ∷ [])
 unfolding last_after
 ends_in_ff [] e = absurd (omega arith)
@@ -102,6 +103,7 @@ record Fronts (bytes : List ℕ) : Type 0 where
   stuffed : IsStuffed (front_of bytes)
   short : length (front_of bytes) ≤ 65536
 
+-- each of them has such a front
 fronts_of : (bytes : List ℕ) → Fronts bytes
 fronts_of bytes =
     let s = sound_split 0 (take 65536 bytes) in
@@ -113,6 +115,7 @@ fronts_of bytes =
       short = omega (arith, ap length s.1, length-append (front_of bytes) s.0, length-take 65536 bytes);
     }
 
+-- which has bytes
 fronts_are_bytes : (bytes : List ℕ) → IsBytes bytes → (f : Fronts bytes) → IsBytes (front_of bytes)
 fronts_are_bytes bytes fits f =
     let P : List ℕ → Type 0 = λ l. IsBytes l in
@@ -201,11 +204,13 @@ tell_got gs bytes blocks rest fits bands e =
           ]
     ]
 
+-- by what is read of the bits
 tell_by : (gs : List Grid) (bytes : List ℕ) (r : Read (List Block)) → IsBytes bytes → HaveOwnBands gs → read_bits gs (readable_bits bytes) ≡ r → HeaderTold gs bytes
 tell_by gs bytes (Got blocks rest) fits bands e = tell_got gs bytes blocks rest fits bands e
 tell_by gs bytes AtEnd fits bands e = tell_end gs bytes fits bands e
 tell_by gs bytes (Refused why) fits bands e = tell_fault gs bytes why fits bands e
 
+-- all bytes are told
 header_told : (gs : List Grid) (bytes : List ℕ) → IsBytes bytes → HaveOwnBands gs → HeaderTold gs bytes
 header_told gs bytes fits bands = tell_by gs bytes (read_bits gs (readable_bits bytes)) fits bands refl
 
@@ -269,12 +274,15 @@ end_told gs bytes w =
 pub done_bad : (used : ℕ) (blocks : List Block) (why : HeaderRefusal) → Done used blocks ≡ Bad why → ⊥
 done_bad used blocks why e = cc
 
+-- a header isn't unfinished,
 pub done_need : (used : ℕ) (blocks : List Block) → Done used blocks ≡ Need → ⊥
 done_need used blocks e = cc
 
+-- nor is a refusal,
 pub bad_need : (why : HeaderRefusal) → Bad why ≡ Need → ⊥
 bad_need why e = cc
 
+-- and a refusal has one reason
 pub one_reason : (why other : HeaderRefusal) → Bad why ≡ Bad other → why ≡ other
 one_reason why other e = cc
 

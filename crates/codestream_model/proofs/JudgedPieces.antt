@@ -21,6 +21,7 @@ bit_stops : (b : Bool) (bits : List Bool) (r : Option HeaderRefusal) → StopsIn
 bit_stops b bits None s = ap read_bit (short_front b bits s.0 s.1 s.2)
 bit_stops b bits (Some why) s = let e : None ≡ Some why = s.1 in absurd (cc)
 
+-- is read, or stops
 pub bit_judged : (b : Bool) → Judged read_bit (λ x. Unit {0}) (InclusionPiece b ∷ []) b
 bit_judged b = judged_one read_bit (λ x. Unit {0}) (InclusionPiece b) b (λ h. (tt, λ more. refl)) (bit_stops b)
 
@@ -58,18 +59,21 @@ planes_fault s why e = elim (leb_tells s.to 74) [
   | inr t ↦ let f : Some ZeroPlanes ≡ Some why = rw t.0 at e in (t.1, cc)
 ]
 
+-- a step that isn't refused has a label of at most 74
 pub planes_sound : (s : Step) → IsSound (PlanesPiece s) → s.to ≤ 74
 planes_sound s e = elim (leb_tells s.to 74) [
   | inl t ↦ t.1
   | inr t ↦ let f : Some ZeroPlanes ≡ None = rw t.0 at e in absurd (cc)
 ]
 
+-- where bits stop in a step, the reader does
 label_stops : (s : Step) → s.from ≤ 74 → s.from ≤ s.to → (bits : List Bool) (r : Option HeaderRefusal) → StopsIn (PlanesPiece s) bits r → read_label s.from bits ≡ stop r
 label_stops s low up bits None t = label_cut bits s.from (s.to - s.from) t.0 t.1 t.2
 label_stops s low up bits (Some why) t =
     let f = planes_fault s why t.1 in
     ap (read_label s.from) t.2 ∙ (label_refused (s.to - s.from) s.from t.0 low (omega (arith, f.0)) ∙ ap (λ (w : HeaderRefusal). Refused w) (sym f.1))
 
+-- a step to a node of the value tree is read, or stops
 pub label_judged : (s : Step) → s.from ≤ 74 → s.from ≤ s.to → Judged (read_label s.from) (λ v. v ≤ 74) (PlanesPiece s ∷ []) s.to
 label_judged s low up =
     judged_one (read_label s.from) (λ v. v ≤ 74) (PlanesPiece s) s.to
@@ -106,24 +110,28 @@ lblock_refused (suc d) least rest low high =
       | inr t ↦ rw t.0 (lblock_refused d (suc least) rest t.1 (omega arith))
     ])
 
+-- an Lblock that is refused is above 24
 lblock_fault : (n : ℕ) (why : HeaderRefusal) → fault_of (LblockPiece n) ≡ Some why → (24 < n) × (why ≡ LengthBits)
 lblock_fault n why e = elim (leb_tells n 24) [
   | inl t ↦ let f : None ≡ Some why = rw t.0 at e in absurd (cc)
   | inr t ↦ let f : Some LengthBits ≡ Some why = rw t.0 at e in (t.1, cc)
 ]
 
+-- and one that isn't refused is at most 24
 pub lblock_sound : (n : ℕ) → IsSound (LblockPiece n) → n ≤ 24
 lblock_sound n e = elim (leb_tells n 24) [
   | inl t ↦ t.1
   | inr t ↦ let f : Some LengthBits ≡ None = rw t.0 at e in absurd (cc)
 ]
 
+-- where bits stop in an Lblock, the reader does
 lblock_stops : (n : ℕ) → 3 ≤ n → (bits : List Bool) (r : Option HeaderRefusal) → StopsIn (LblockPiece n) bits r → read_lblock 3 bits ≡ stop r
 lblock_stops n low bits None t = lblock_cut bits 3 (n - 3) t.0 t.1 t.2
 lblock_stops n low bits (Some why) t =
     let f = lblock_fault n why t.1 in
     ap (read_lblock 3) t.2 ∙ (lblock_refused (n - 3) 3 t.0 (omega arith) (omega (arith, f.0)) ∙ ap (λ (w : HeaderRefusal). Refused w) (sym f.1))
 
+-- an Lblock is read, or stops
 pub lblock_judged : (n : ℕ) → 3 ≤ n → Judged (read_lblock 3) (λ v. v ≤ 24) (LblockPiece n ∷ []) n
 lblock_judged n low =
     judged_one (read_lblock 3) (λ v. v ≤ 24) (LblockPiece n) n
@@ -139,6 +147,7 @@ unfolding read_passes
 cut_one [] rest e h = refl
 cut_one (b ∷ bits) rest e h = absurd (omega (arith, ap length e, length-append bits rest))
 
+-- of two bits,
 cut_two : (bits rest : List Bool) → true ∷ false ∷ [] ≡ bits ++ rest → 1 ≤ length rest → read_passes bits ≡ AtEnd
 unfolding read_passes
 cut_two [] rest e h = refl
@@ -146,6 +155,7 @@ cut_two (true ∷ []) rest e h = refl
 cut_two (false ∷ []) rest e h = absurd (cc)
 cut_two (a ∷ b ∷ bits) rest e h = absurd (omega (arith, ap length e, length-append bits rest))
 
+-- and of four
 cut_four : (c d : Bool) (bits rest : List Bool) → true ∷ true ∷ c ∷ d ∷ [] ≡ bits ++ rest → 1 ≤ length rest → read_passes bits ≡ AtEnd
 unfolding read_passes
 cut_four c d [] rest e h = refl
@@ -157,6 +167,7 @@ cut_four c d (false ∷ bits) rest e h = absurd (cc)
 cut_four c d (true ∷ false ∷ bits) rest e h = absurd (cc)
 cut_four c d (true ∷ true ∷ x ∷ y ∷ bits) rest e h = absurd (omega (arith, ap length e, length-append bits rest))
 
+-- where bits stop in a number of passes, the reader does
 passes_stops : (n : ℕ) → 1 ≤ n → n ≤ 6 → (bits : List Bool) (r : Option HeaderRefusal) → StopsIn (PassesPiece n) bits r → read_passes bits ≡ stop r
 unfolding read_passes
 passes_stops zero some few bits r s = absurd (omega arith)
@@ -174,12 +185,14 @@ passes_stops (suc (suc (suc (suc zero)))) some few bits (Some why) s = let e : S
 passes_stops (suc (suc (suc (suc (suc zero))))) some few bits (Some why) s = let e : Some Passes ≡ Some why = s.1 in let f : Passes ≡ why = cc in rw s.2 (ap (λ (w : HeaderRefusal). Refused w) f)
 passes_stops (suc (suc (suc (suc (suc (suc zero)))))) some few bits (Some why) s = let e : Some Passes ≡ Some why = s.1 in let f : Passes ≡ why = cc in rw s.2 (ap (λ (w : HeaderRefusal). Refused w) f)
 
+-- a number of passes that isn't refused is at most 3
 passes_sound : (n : ℕ) → IsSound (PassesPiece n) → n ≤ 3
 passes_sound n e = elim (leb_tells n 3) [
   | inl t ↦ t.1
   | inr t ↦ let f : Some Passes ≡ None = rw t.0 at e in absurd (cc)
 ]
 
+-- a number of passes is read, or stops
 pub passes_judged : (n : ℕ) → 1 ≤ n → n ≤ 6 → Judged read_passes (λ v. v ≤ 3) (PassesPiece n ∷ []) n
 passes_judged n some few = judged_one read_passes (λ v. v ≤ 3) (PassesPiece n) n (λ h. (passes_sound n h, λ more. passes_read n more some (passes_sound n h))) (passes_stops n some few)
 
@@ -197,15 +210,18 @@ cleanup_told true b n why rest e = let f : CleanupShort ≡ why = cc in ap (λ (
 cleanup_told false true n why rest e = let f : CleanupLong ≡ why = cc in ap (λ (w : HeaderRefusal). Refused w) f
 cleanup_told false false n why rest e = absurd (cc)
 
+-- a cleanup length that isn't refused is within its limits
 cleanup_tests : (a b : Bool) → (if a then Some CleanupShort else if b then Some CleanupLong else None) ≡ None → (a ≡ false) × (b ≡ false)
 cleanup_tests true b e = absurd (cc)
 cleanup_tests false true e = absurd (cc)
 cleanup_tests false false e = (refl, refl)
 
+-- where bits stop in a cleanup length, the reader does
 cleanup_stops : (width n : ℕ) → n < 2 ^ width → (bits : List Bool) (r : Option HeaderRefusal) → StopsIn (CleanupPiece width n) bits r → read_cleanup width bits ≡ stop r
 cleanup_stops width n fits bits None s = rw (number_cut width n bits s.0 s.1 s.2) refl
 cleanup_stops width n fits bits (Some why) s = rw (s.2, number_read width n s.0 fits) (cleanup_told (nat_lt n 2) (nat_le 65535 n) n why s.0 s.1)
 
+-- a cleanup length is read, or stops
 pub cleanup_judged : (width n : ℕ) → n < 2 ^ width → Judged (read_cleanup width) (λ v. (2 ≤ v) × (v < 65535)) (CleanupPiece width n ∷ []) n
 cleanup_judged width n fits =
     judged_one (read_cleanup width) (λ v. (2 ≤ v) × (v < 65535)) (CleanupPiece width n) n
@@ -219,6 +235,7 @@ refine_told : (a : Bool) (n : ℕ) (why : HeaderRefusal) (rest : List Bool) → 
 refine_told true n why rest e = let f : RefineLong ≡ why = cc in ap (λ (w : HeaderRefusal). Refused w) f
 refine_told false n why rest e = absurd (cc)
 
+-- a refinement length that isn't refused is within its limit
 refine_test : (a : Bool) → (if a then Some RefineLong else None) ≡ None → a ≡ false
 refine_test true e = absurd (cc)
 refine_test false e = refl
@@ -227,16 +244,19 @@ refine_test false e = refl
 abbrev read_some : ℕ → List Bool → Read ℕ
 read_some width bits = and_then (read_number width bits) (λ n more. unless (nat_le 2047 n) RefineLong (Got n more))
 
+-- where bits stop in a refinement length, the reader does
 some_stops : (width n : ℕ) → n < 2 ^ width → (bits : List Bool) (r : Option HeaderRefusal) → StopsIn (RefinePiece width n) bits r → read_some width bits ≡ stop r
 some_stops width n fits bits None s = rw (number_cut width n bits s.0 s.1 s.2) refl
 some_stops width n fits bits (Some why) s = rw (s.2, number_read width n s.0 fits) (refine_told (nat_le 2047 n) n why s.0 s.1)
 
+-- one that is there is read, or stops
 some_judged : (width n : ℕ) → n < 2 ^ width → Judged (read_some width) (λ v. v < 2047) (RefinePiece width n ∷ []) n
 some_judged width n fits =
     judged_one (read_some width) (λ v. v < 2047) (RefinePiece width n) n
     (λ h. let t = refine_test (nat_le 2047 n) h in (leb-false 2047 n t, λ more. rw (number_read width n more fits, t) refl))
     (some_stops width n fits)
 
+-- a refinement length is read, or stops, where there is one
 pub refine_judged : (passes lblock n : ℕ) → 1 ≤ passes → (passes ≢ 1 → n < 2 ^ refine_width passes lblock) → (passes ≡ 1 → n ≡ 0)
     → Judged (read_refine passes lblock) (λ v. v < 2047) (refine_pieces passes lblock n) n
 refine_judged passes lblock n some fits none = elim (eqb_tells passes 1) [

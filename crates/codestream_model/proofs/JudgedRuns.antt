@@ -18,6 +18,7 @@ use Rattle.codestream_model.proofs.JudgedPieces.{bit_judged, label_judged, passe
 abbrev pub AreLow : List Node → Type 0
 AreLow nodes = AllByRecursion (λ (n : Node). n.label ≤ 74) nodes
 
+-- a label that is known is low
 known_low : (level : ℕ) (s : Seat) (nodes : List Node) (value : ℕ) → AreLow nodes → known_label level s nodes ≡ Some value → value ≤ 74
 unfolding known_label
 known_low level s [] value a e = absurd (cc)
@@ -41,9 +42,11 @@ planes_pass : (level : ℕ) (levels : List ℕ) (s : Seat) (above value : ℕ) (
 unfolding read_planes
 planes_pass level levels s above value nodes bits e = rw (e, read_planes) refl
 
+-- what follows a node of the value tree
 abbrev behind_node : ℕ → List ℕ → Seat → List Node → ℕ → List Bool → Read Walked
 behind_node level levels s nodes value bits = read_planes levels s value (node_of level s value ∷ nodes) bits
 
+-- a node of the value tree that isn't known is read
 planes_read : (level : ℕ) (levels : List ℕ) (s : Seat) (above : ℕ) (nodes : List Node) (bits : List Bool) → known_label level s nodes ≡ None
     → read_planes (level ∷ levels) s above nodes bits ≡ and_then (read_label above bits) (behind_node level levels s nodes)
 unfolding read_planes
@@ -74,14 +77,17 @@ inclusion_pass : (level : ℕ) (levels : List ℕ) (s : Seat) (above value : ℕ
 unfolding read_inclusion
 inclusion_pass level levels s above value nodes bits e = rw (e, read_inclusion) refl
 
+-- one that isn't known is passed below a label that isn't 0,
 inclusion_skip : (level : ℕ) (levels : List ℕ) (s : Seat) (above : ℕ) (nodes : List Node) (bits : List Bool) → known_label level s nodes ≡ None → (above == 0) ≡ false
     → read_inclusion (level ∷ levels) s above nodes bits ≡ read_inclusion levels s above nodes bits
 unfolding read_inclusion
 inclusion_skip level levels s above nodes bits e f = rw (e, read_inclusion) (rw (f, read_inclusion) refl)
 
+-- what follows a bit of the inclusion tree
 abbrev behind_bit : ℕ → List ℕ → Seat → List Node → Bool → List Bool → Read Walked
 behind_bit level levels s nodes b bits = read_inclusion levels s (bit_label b) (node_of level s (bit_label b) ∷ nodes) bits
 
+-- and else read
 inclusion_read : (level : ℕ) (levels : List ℕ) (s : Seat) (above : ℕ) (nodes : List Node) (bits : List Bool) → known_label level s nodes ≡ None → (above == 0) ≡ true
     → read_inclusion (level ∷ levels) s above nodes bits ≡ and_then (read_bit bits) (behind_bit level levels s nodes)
 unfolding read_inclusion
@@ -91,6 +97,7 @@ inclusion_read level levels s above nodes bits e f = rw (e, read_inclusion) (rw 
 abbrev IsAny : {A : Type 0} → A → Type 0
 IsAny x = Unit {0}
 
+-- a leaf of the inclusion tree
 inclusion_judged : (levels : List ℕ) (s : Seat) (above : ℕ) (nodes : List Node) (ps : List Piece) (w : Walked) → InclusionRun levels s above nodes ps w
     → Judged (read_inclusion levels s above nodes) IsAny ps w
 unfolding read_inclusion
@@ -119,15 +126,19 @@ IsLimited b = b.planes ≤ 74 → IsWithinLimits b
 abbrev whole_block : Seat → ℕ → ℕ → ℕ → ℕ → Block
 whole_block s planes passes cleanup refine = record { band = s.band; col = s.col; row = s.row; planes = planes; passes = passes; cleanup = cleanup; refine = refine }
 
+-- behind its refinement length,
 abbrev with_refine : Seat → ℕ → ℕ → ℕ → ℕ → List Bool → Read Block
 with_refine s planes passes cleanup refine bits = Got (whole_block s planes passes cleanup refine) bits
 
+-- its cleanup length,
 abbrev with_cleanup : Seat → ℕ → ℕ → ℕ → ℕ → List Bool → Read Block
 with_cleanup s planes passes lblock cleanup bits = and_then (read_refine passes lblock bits) (with_refine s planes passes cleanup)
 
+-- its Lblock,
 abbrev with_lblock : Seat → ℕ → ℕ → ℕ → List Bool → Read Block
 with_lblock s planes passes lblock bits = and_then (read_cleanup lblock bits) (with_cleanup s planes passes lblock)
 
+-- and its number of passes
 abbrev with_passes : Seat → ℕ → ℕ → List Bool → Read Block
 with_passes s planes passes bits = and_then (read_lblock 3 bits) (with_lblock s planes passes)
 
@@ -146,6 +157,7 @@ block_judged lblock b some few fits =
     (refine_judged b.passes lblock b.refine some fits.refine fits.none)
     (λ r. judged_none IsLimited b (λ h. record { planes = h; some_passes = some; few_passes = p; some_cleanup = c.0; short_cleanup = c.1; short_refine = r; no_refine = fits.none }))))))
 
+-- a run of a code-block
 block_run_judged : (s : Seat) (planes : ℕ) (ps : List Piece) (b : Block) → BlockRun s planes ps b → Judged (read_block s planes) IsLimited ps b
 block_run_judged s planes ps b r =
     let P : List Piece → Type 0 = λ x. Judged (read_block s planes) IsLimited x b in
@@ -157,12 +169,15 @@ block_run_judged s planes ps b r =
 abbrev behind_block : List ℕ → List Seat → List Node → List Node → Block → List Bool → Read (List Block)
 behind_block levels more inclusion planes b bits = and_then (read_seats levels more inclusion planes bits) (λ blocks rest. Got (b ∷ blocks) rest)
 
+-- behind the zero bit-planes,
 abbrev behind_value : List ℕ → Seat → List Seat → List Node → Walked → List Bool → Read (List Block)
 behind_value levels s more inclusion value bits = and_then (read_block s value.label bits) (behind_block levels more inclusion value.nodes)
 
+-- behind the inclusion of one that is included,
 abbrev behind_inclusion : List ℕ → Seat → List Seat → List Node → List Node → List Bool → Read (List Block)
 behind_inclusion levels s more inclusion planes bits = and_then (read_planes levels s 0 planes bits) (behind_value levels s more inclusion)
 
+-- and behind that of any
 abbrev behind_seat : List ℕ → Seat → List Seat → List Node → Walked → List Bool → Read (List Block)
 behind_seat levels s more planes found bits =
     read_either (found.label == 0) (behind_inclusion levels s more found.nodes planes) (λ rest. read_seats levels more found.nodes planes rest) bits
@@ -211,6 +226,7 @@ seats_judged levels (s ∷ more) inclusion planes ps blocks (found, own, rest, w
 abbrev behind_grid : List Grid → List Block → List Bool → Read (List Block)
 behind_grid gs own bits = and_then (read_grids gs bits) (λ others rest. Got (own ++ others) rest)
 
+-- grids
 pub grids_judged : (gs : List Grid) (ps : List Piece) (blocks : List Block) → GridsRun gs ps blocks → Judged (read_grids gs) AreLimited ps blocks
 unfolding read_grids
 grids_judged [] ps blocks (none, e) =

@@ -28,6 +28,7 @@ filter_has {X} test (x ∷ xs) z h = elim (either (test x)) [
       (inr r.0, r.1)
 ]
 
+-- and a member that passes is there
 has_filter : {X : Type 0} (test : X → Bool) (xs : List X) (z : X) → Has xs z → test z ≡ true → Has (filter test xs) z
 has_filter test [] z h e = absurd h
 has_filter {X} test (x ∷ xs) z (inl f) e =
@@ -60,9 +61,11 @@ own_seat s b e =
 passes_low : (n : ℕ) → n ≤ 3 → IsSound (PassesPiece n)
 passes_low n h = rw (le-leb n 3 h) refl
 
+-- of a cleanup length,
 cleanup_low : (width n : ℕ) → 2 ≤ n → n < 65535 → IsSound (CleanupPiece width n)
 cleanup_low width n low high = rw (lt-leb (suc n) 2 (omega arith), lt-leb 65535 n high) refl
 
+-- and of a refinement length
 refine_low : (width n : ℕ) → n < 2047 → IsSound (RefinePiece width n)
 refine_low width n high = rw (lt-leb 2047 n high) refl
 
@@ -80,6 +83,7 @@ rest_sound lblock b l low p (inr (inr (inr m))) = elim (either (b.passes == 1)) 
       elim one [ inl e ↦ subst P e (refine_low (refine_width b.passes lblock) b.refine l.short_refine) | inr n ↦ absurd n ]
 ]
 
+-- with its zero bit-planes
 block_sound : (g : Grid) (choices : Choices) (blocks : List Block) (b : Block) (p : Piece) → LabelsPlanes blocks (choices.planes g.band) g → Has blocks b → IsSeat g (seat_of b) → IsWithinLimits b → choices.lblock (seat_of b) ≤ 24
     → Has (block_pieces g choices blocks b) p → IsSound p
 block_sound g choices blocks b p labels member i l low m =

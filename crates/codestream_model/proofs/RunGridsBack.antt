@@ -25,6 +25,7 @@ highest : List Node → ℕ
 highest [] = 0
 highest (n ∷ nodes) = max n.label (highest nodes)
 
+-- no label is above it
 below_highest : (nodes : List Node) → AreBelow (highest nodes) nodes
 unfolding highest
 below_highest [] = tt
@@ -36,6 +37,7 @@ GridsBack [] ps left = (left ≡ []) × (ps ≡ [])
 GridsBack (g ∷ gs) ps left =
     (own : List Block) × (others : List Block) × (here : List Piece) × (rest : List Piece) × (left ≡ own ++ others) × (ps ≡ here ++ rest) × SeatsRunBack g (seats g) [] [] here own × GridsBack gs rest others
 
+-- runs of grids are these
 grids_back : (gs : List Grid) (ps : List Piece) (left : List Block) → GridsRun gs ps left → GridsBack gs ps left
 unfolding known_label
 grids_back [] ps left run = (run.1, run.0)
@@ -46,6 +48,7 @@ grids_back (g ∷ gs) ps left (own, others, here, rest, e, whole, run, more) =
 abbrev value_labels : (g : Grid) (here : List Piece) (own : List Block) → SeatsRunBack g (seats g) [] [] here own → Labels
 value_labels g here own s = label_in (highest s.pl_after) s.pl_after
 
+-- its nodes are sound
 value_nodes : (g : Grid) (here : List Piece) (own : List Block) (s : SeatsRunBack g (seats g) [] [] here own) → AreNodes (root_level g) (highest s.pl_after) IsUp s.pl_after
 value_nodes g here own s = s.pl_rise (highest s.pl_after) (below_highest s.pl_after)
 
@@ -64,10 +67,12 @@ inclusion_read_of : (gs : List Grid) (ps : List Piece) (left : List Block) → G
 inclusion_read_of [] ps left b band = λ level col row. 1
 inclusion_read_of (g ∷ gs) ps left (own, others, here, rest, e, whole, s, more) band = by_band g.band (label_in 1 s.inc_after) (inclusion_read_of gs rest others more) band
 
+-- of the value trees,
 planes_read_of : (gs : List Grid) (ps : List Piece) (left : List Block) → GridsBack gs ps left → ℕ → Labels
 planes_read_of [] ps left b band = λ level col row. 0
 planes_read_of (g ∷ gs) ps left (own, others, here, rest, e, whole, s, more) band = by_band g.band (value_labels g here own s) (planes_read_of gs rest others more) band
 
+-- and the Lblocks
 lblock_read_of : (gs : List Grid) (ps : List Piece) (left : List Block) → GridsBack gs ps left → ℕ → Seat → ℕ
 lblock_read_of [] ps left b band = λ s. 3
 lblock_read_of (g ∷ gs) ps left (own, others, here, rest, e, whole, s, more) band = by_band g.band (lblock_in own s.ns) (lblock_read_of gs rest others more) band
@@ -127,6 +132,7 @@ lblocks_in (b ∷ own) (n ∷ ns) d c = (rw (stands_here b) refl, lblocks_beside
 abbrev SameAt : Choices → Choices → Grid → Type 0
 SameAt c d o = (c.inclusion o.band ≡ d.inclusion o.band) × (c.planes o.band ≡ d.planes o.band) × ((s : Seat) → s.band ≡ o.band → c.lblock s ≡ d.lblock s)
 
+-- choices that agree with what was read
 fits_same : (c d : Choices) (gs : List Grid) (ps : List Piece) (left : List Block) (b : GridsBack gs ps left) → AllByRecursion (SameAt c d) gs → Fits d gs ps left b → Fits c gs ps left b
 unfolding Fits
 fits_same c d [] ps left b a f = tt
@@ -137,9 +143,11 @@ fits_same c d (g ∷ gs) ps left (own, others, here, rest, e, whole, s, more) a 
 read_choices : (gs : List Grid) (ps : List Piece) (left : List Block) → GridsBack gs ps left → Choices
 read_choices gs ps left b = record { inclusion = inclusion_read_of gs ps left b; planes = planes_read_of gs ps left b; lblock = λ s. lblock_read_of gs ps left b s.band s }
 
+-- a choice at its band,
 by_band_here : {A : Type 0} (band : ℕ) (here : A) (elsewhere : ℕ → A) (x : ℕ) → x ≡ band → by_band band here elsewhere x ≡ here
 by_band_here band here elsewhere x e = elim (eqb_tells x band) [ inl t ↦ rw t.0 refl | inr t ↦ absurd (t.1 e) ]
 
+-- and at another one
 by_band_elsewhere : {A : Type 0} (band : ℕ) (here : A) (elsewhere : ℕ → A) (x : ℕ) → x ≢ band → by_band band here elsewhere x ≡ elsewhere x
 by_band_elsewhere band here elsewhere x e = elim (eqb_tells x band) [ inl t ↦ absurd (e t.1) | inr t ↦ rw t.0 refl ]
 
@@ -157,6 +165,7 @@ same_below g gs ps left (own, others, here, rest, e, whole, s, more) (o ∷ os) 
   same_below g gs ps left (own, others, here, rest, e, whole, s, more) os a.1,
 )
 
+-- the choices that were read are what was read
 read_fits : (gs : List Grid) (ps : List Piece) (left : List Block) (b : GridsBack gs ps left) → HaveOwnBands gs → Fits (read_choices gs ps left b) gs ps left b
 unfolding Fits read_choices inclusion_read_of planes_read_of lblock_read_of
 read_fits [] ps left b bands = tt
@@ -195,6 +204,7 @@ included_own band pre own others s a c e =
     list_any-append (stands_at s) pre (own ++ others) ∙ (ap (λ (x : Bool). x || list_any (stands_at s) (own ++ others)) p ∙ (list_any-append (stands_at s) own others
     ∙ (ap (λ (x : Bool). list_any (stands_at s) own || x) q ∙ or_false (list_any (stands_at s) own))))
 
+-- labels tell which of all code-blocks are included
 tells_all : (labels : Labels) (blocks own : List Block) (band : ℕ) (xs : List Seat) → AllByRecursion (λ (x : Seat). x.band ≡ band) xs → ((s : Seat) → s.band ≡ band → is_included blocks s ≡ is_included own s)
     → AllByRecursion (TellsIncluded labels own) xs → AllByRecursion (TellsIncluded labels blocks) xs
 tells_all labels blocks own band [] a e t = tt
@@ -205,6 +215,7 @@ values_other : (labels : Labels) (band : ℕ) (xs : List Block) → AllByRecursi
 values_other labels band [] a = tt
 values_other labels band (b ∷ xs) a = (λ e. absurd (a.0 e), values_other labels band xs a.1)
 
+-- those of the band do
 values_own : (labels : Labels) (band : ℕ) (xs : List Block) → AllByRecursion (λ (b : Block). label labels 0 (seat_of b) ≡ b.planes) xs → AllByRecursion (λ (b : Block). b.band ≡ band → label labels 0 (seat_of b) ≡ b.planes) xs
 values_own labels band [] a = tt
 values_own labels band (b ∷ xs) a = (λ e. a.0, values_own labels band xs a.1)

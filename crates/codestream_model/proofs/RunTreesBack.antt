@@ -29,6 +29,7 @@ abbrev pub down : ℕ → List ℕ
 down zero = []
 down (suc n) = n ∷ down n
 
+-- the levels from one down are those below the next
 pub levels_down : (level : ℕ) → levels_from level ≡ down (suc level)
 unfolding levels_from
 levels_down zero = refl
@@ -39,6 +40,7 @@ abbrev pub entry : Grid → Labels → ℕ → Seat → ℕ
 entry g labels zero s = label labels 0 s
 entry g labels (suc n) s = parent_label g labels n s
 
+-- a walk comes with the label of the node above, or with the leaf's
 entry_is : (g : Grid) (labels : Labels) (n : ℕ) (s : Seat) → n ≤ root_level g → entry g labels n s ≡ label labels n s
 entry_is g labels zero s h = refl
 entry_is g labels (suc n) s h = parent_below g labels s n h
@@ -47,6 +49,7 @@ entry_is g labels (suc n) s h = parent_below g labels s n h
 abbrev pub IsEntry : ℕ → ℕ → Seat → ℕ → List Node → Type 0
 IsEntry height n s from nodes = ((n ≡ suc height) × (from ≡ 0)) ⊎ (known_label n s nodes ≡ Some from)
 
+-- a walk that comes to a level comes from above it
 entry_above : (height n : ℕ) (s : Seat) (from : ℕ) (nodes : List Node) → IsEntry height (suc n) s from nodes → IsAbove height n s from nodes
 entry_above height n s from nodes (inl t) = inl (omega (arith, t.0), t.1)
 entry_above height n s from nodes (inr e) =
@@ -58,6 +61,7 @@ entry_above height n s from nodes (inr e) =
 abbrev pub AreBelow : ℕ → List Node → Type 0
 AreBelow limit nodes = AllByRecursion (λ (n : Node). n.label ≤ limit) nodes
 
+-- nodes of which none is below its parent
 abbrev pub NodesRise : ℕ → List Node → Type 0
 NodesRise height nodes = (limit : ℕ) → AreBelow limit nodes → AreNodes height limit IsUp nodes
 
@@ -70,6 +74,7 @@ pub record PlanesBack (g : Grid) (s : Seat) (n from : ℕ) (nodes : List Node) (
       → KnowsTree (root_level g) always labels among s n nodes
       → (ps ≡ planes_pieces g labels s first (down n)) × KnowsTree (root_level g) always labels among s 0 w.nodes
 
+-- a run of a leaf of the value tree
 pub planes_back : (g : Grid) (s : Seat) (n from : ℕ) (nodes : List Node) (ps : List Piece) (w : Walked) → n ≤ suc (root_level g) → NodesRise (root_level g) nodes → IsEntry (root_level g) n s from nodes
     → PlanesRun (down n) s from nodes ps w → PlanesBack g s n from nodes ps w
 planes_back g s zero from nodes ps w h rise is (none, e) =
@@ -134,6 +139,7 @@ pub record InclusionBack (g : Grid) (s : Seat) (n from : ℕ) (nodes : List Node
       → (ps ≡ inclusion_pieces g labels s first (down n)) × KnowsTree (root_level g) (below_zero g labels) labels among s 0 w.nodes
   pub same : (labels : Labels) → NeverFalls g labels → IsSeat g s → label labels 0 s ≤ 1 → Agrees labels w.nodes → from ≡ entry g labels n s → w.label ≡ label labels 0 s
 
+-- a run of a leaf of the inclusion tree
 pub inclusion_back : (g : Grid) (s : Seat) (n from : ℕ) (nodes : List Node) (ps : List Piece) (w : Walked) → n ≤ suc (root_level g)
     → AreNodes (root_level g) 1 IsBelowZero nodes → (from ≡ 0 → IsEntry (root_level g) n s from nodes) → from ≤ 1 → InclusionRun (down n) s from nodes ps w
     → InclusionBack g s n from nodes ps w

@@ -101,6 +101,7 @@ refine_found passes lblock bits = elim (eqb_tells passes 1) [
       (f.0, λ h. f.1, λ h. absurd (t.1 h), subst P (sym one) f.2)
 ]
 
+-- no step stands among refinement lengths
 rising_refine : (passes lblock n : ℕ) → AllByRecursion IsRising (refine_pieces passes lblock n)
 rising_refine passes lblock n = elim (either (passes == 1)) [ inl t ↦ rw t tt | inr t ↦ rw t (tt, tt) ]
 
@@ -151,6 +152,7 @@ bit_found : (bits : List Bool) → (b : Bool) × Ends bits (b ∷ [])
 bit_found [] = (true, inr (true ∷ [], refl))
 bit_found (b ∷ bits) = (b, inl (bits, refl))
 
+-- and its leaf
 inclusion_found : (levels : List ℕ) (s : Seat) (above : ℕ) (nodes : List Node) (bits : List Bool) → Found (InclusionRun levels s above nodes) bits
 inclusion_found [] s above nodes bits = record { pieces = []; value = record { label = above; nodes = nodes }; run = (refl, refl); rising = tt; ends = inl (bits, refl) }
 inclusion_found (level ∷ levels) s above nodes bits = elim (known_or (known_label level s nodes)) [

@@ -105,6 +105,7 @@ segments_sound h p bytes used own blocks header size fits few done e =
       ]
     ]
 
+-- by what is read of its header
 header_found_sound : (h : Head) (p : Place) (bytes : List ℕ) (r : HeaderReading) (blocks : List Block) (header size : ℕ) → IsBytes bytes → HasFewBlocks (grids h p) → header_of (grids h p) bytes ≡ r
     → found_header bytes r ≡ Whole blocks header size → BeginsWithPacket h p bytes
 header_found_sound h p bytes (Done used own) blocks header size fits few r e = segments_sound h p bytes used own blocks header size fits few r e

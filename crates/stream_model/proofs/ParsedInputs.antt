@@ -43,13 +43,13 @@ none_of_none stamp bytes xs z (inr (h, later, at, rest, b, lacks, e)) =
     absurd (omega (arith, ap length b.whole, length-append b.head (b.packets ++ rest), head_long h b.head b.is_head))
 
 -- what is parsed behind whole codestreams
-parsed_behind : (m k stamp step n : ℕ) (rest : List ℕ) (xs : List Precinct) → IsBytes rest → k ≡ m + n → ArePrecinctsBehind stamp step n rest xs → ((n ≡ 65536) → m ≡ 0) → ((n < 65536) → m ≡ 0 → length rest ≡ 0)
+parsed_behind : (m stamp step n : ℕ) (rest : List ℕ) (xs : List Precinct) → IsBytes rest → ArePrecinctsBehind stamp step n rest xs → ((n ≡ 65536) → m ≡ 0) → ((n < 65536) → m ≡ 0 → length rest ≡ 0)
     → parsed m (stamp_of stamp step n) step rest ≡ xs
 unfolding parsed
-parsed_behind zero k stamp step n rest xs fits e (inl (all, none)) full last = sym none
-parsed_behind (suc m) k stamp step n rest xs fits e (inl (all, none)) full last = let z : suc m ≡ 0 = full all in absurd (omega arith)
-parsed_behind zero k stamp step n rest xs fits e (inr (few, are)) full last = sym (none_of_none (stamp_of stamp step n) rest xs (last few refl) are)
-parsed_behind (suc m) k stamp step n rest xs fits e (inr (few, are)) full last = parsed_rest m (stamp_of stamp step n) step rest xs fits are
+parsed_behind zero stamp step n rest xs fits (inl (all, none)) full last = sym none
+parsed_behind (suc m) stamp step n rest xs fits (inl (all, none)) full last = let z : suc m ≡ 0 = full all in absurd (omega arith)
+parsed_behind zero stamp step n rest xs fits (inr (few, are)) full last = sym (none_of_none (stamp_of stamp step n) rest xs (last few refl) are)
+parsed_behind (suc m) stamp step n rest xs fits (inr (few, are)) full last = parsed_rest m (stamp_of stamp step n) step rest xs fits are
 
 -- no more codestreams than count
 few_or_all : (n : ℕ) (rest : List ℕ) (stamp step : ℕ) (xs : List Precinct) → ArePrecinctsBehind stamp step n rest xs → n ≤ 65536
@@ -77,7 +77,7 @@ whole_packets stamp step read ended said codestreams rest xs low fits whole are 
     ∙ (parsed_codestreams m stamp step 0 said codestreams rest are fits'
     ∙ (ap (λ (j : ℕ). precincts_from stamp step 0 said ++ parsed m (stamp_of stamp step j) step rest) (let z : 0 + k ≡ k = omega arith in z)
     ∙ ap (λ (l : List Precinct). precincts_from stamp step 0 said ++ l)
-    (parsed_behind m (m + k) stamp step k rest xs (bytes_behind (joined codestreams) rest fits') refl behind (λ e. omega arith) (λ f z. omega arith)))))) in
+    (parsed_behind m stamp step k rest xs (bytes_behind (joined codestreams) rest fits') behind (λ e. omega arith) (λ f z. omega arith)))))) in
     ap lines all
 
 -- what codestreams say
@@ -131,6 +131,7 @@ short_lacks h p bytes t (x, packet, more, s, e) =
     let same : segment_bytes t.blocks ≡ segment_bytes x.blocks = ap segment_bytes one.1 in
     absurd (omega (arith, t.lacks, s.segments, ap length one.0, ap length whole, length-append t.header t.rest, length-append s.header (x.bytes ++ more), length-append x.bytes more))
 
+-- so one that isn't whole isn't there
 needs_lacks : (h : Head) (p : Place) (bytes : List ℕ) → NeedsPacketBytes (grids h p) bytes → BeginsWithPacket h p bytes → ⊥
 needs_lacks h p bytes t b = elim t.unfinished [
   | inl n ↦ (one_verdict (grids h p) bytes (own_bands h p)).not_unfinished (packet_header h p bytes b) n
@@ -141,9 +142,11 @@ needs_lacks h p bytes t b = elim t.unfinished [
 abbrev PrecinctsAre : ℕ → List ℕ → Type 0
 PrecinctsAre stamp bytes = (xs : List Precinct) × ArePrecinctsOf stamp bytes xs
 
+-- before a packet,
 before_packet : (stamp : ℕ) (bytes : List ℕ) (at : ℕ) (Holds : Head → Place → List ℕ → Type 0) → ((h : Head) (p : Place) (rest : List ℕ) → Holds h p rest → BeginsWithPacket h p rest → ⊥) → HoldsAtPacket bytes at Holds → PrecinctsAre stamp bytes
 before_packet stamp bytes at Holds lacks (h, p, later, rest, b, holds) = (precincts_of h stamp b.before b.content, inr (h, p ∷ later, at, rest, b, lacks h p rest holds, refl))
 
+-- and before EOC
 before_eoc : (stamp : ℕ) (bytes : List ℕ) (at : ℕ) (Holds : Head → List ℕ → Type 0) → ((h : Head) (rest : List ℕ) → Holds h rest → BeginsWithEoc h at rest → ⊥) → HoldsAtEoc bytes at Holds → PrecinctsAre stamp bytes
 before_eoc stamp bytes at Holds lacks (h, rest, b, holds) = (precincts_of h stamp b.before b.content, inr (h, [], at, rest, b, lacks h rest holds, refl))
 
@@ -155,6 +158,7 @@ other_lacks bytes (a, b, rest, e, differs) more f =
     let q : b ≡ 217 = cc in
     differs (p, q)
 
+-- nor is one byte
 few_lacks : (bytes more : List ℕ) → length bytes < 2 → bytes ≡ 255 ∷ 217 ∷ more → ⊥
 few_lacks bytes more h e = absurd (omega (arith, ap length e))
 

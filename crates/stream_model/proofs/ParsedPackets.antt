@@ -96,6 +96,7 @@ psot_right h at e = elim (eqb_tells h.psot 0) [
   ]
 ]
 
+-- and the test holds where it is right
 pub right_psot : (h : Head) (at : ℕ) → IsPsotRight h at → ((h.psot == 0) || (h.psot == at - h.sot)) ≡ true
 right_psot h at (inl e) = elim (eqb_tells h.psot 0) [ inl t ↦ rw t.0 refl | inr t ↦ absurd (t.1 e) ]
 right_psot h at (inr e) = elim (eqb_tells h.psot (at - h.sot)) [ inl t ↦ rw t.0 (any_true (h.psot == 0)) | inr t ↦ absurd (t.1 e) ]
@@ -205,6 +206,7 @@ mod_then a b m =
     let e : a + b ≡ (a % m + b) + m * (a / m) = omega arith in
     sym (ap (λ (n : ℕ). n % m) e ∙ add-mul-mod_self_left (a % m + b) m (a / m))
 
+-- is the stamp of the next place
 pub next_stamp : (stamp step i : ℕ) → (stamp_of stamp step i + step) % 2 ^ 32 ≡ stamp_of stamp step (i + 1)
 next_stamp stamp step i =
     let e : (stamp + i * step) + step ≡ stamp + (i + 1) * step = grind arith in

@@ -50,6 +50,7 @@ record FirstPackets (h : Head) (places : List Place) (bytes : List ℕ) : Type 0
   whole : bytes ≡ packets ++ rest
   lacks : (later ≡ []) ⊎ ((p : Place) × (more : List Place) × (later ≡ p ∷ more) × (BeginsWithPacket h p rest → ⊥))
 
+-- all bytes have such packets
 first_packets : (h : Head) (places : List Place) (bytes : List ℕ) → IsBytes bytes → FirstPackets h places bytes
 first_packets h [] bytes fits = record { before = []; later = []; content = []; packets = []; rest = bytes; order = refl; are = refl; whole = refl; lacks = inl refl }
 first_packets h (p ∷ places) bytes fits = elim (packet_or_none h p bytes (found_packet h p bytes) fits refl) [
@@ -131,6 +132,7 @@ record ReadIs (n stamp step i : ℕ) (bytes : List ℕ) : Type 0 where
   are : AreCodestreams said codestreams
   behind : ((length codestreams ≡ n) × (xs ≡ [])) ⊎ ((length codestreams < n) × ArePrecinctsOf (stamp_of stamp step (i + length codestreams)) rest xs)
 
+-- all bytes are so
 read_is : (n stamp step i : ℕ) (bytes : List ℕ) → IsBytes bytes → ReadIs n stamp step i bytes
 read_is zero stamp step i bytes fits = record { said = []; codestreams = []; rest = bytes; xs = []; whole = refl; are = tt; behind = inl (refl, refl) }
 read_is (suc n) stamp step i bytes fits = elim (behind_head (stamp_of stamp step i) bytes (head_of bytes) fits refl) [
