@@ -21,4 +21,6 @@ pub use laws::{
     stretches_are_runs, thinned_does_not_arrive, thinned_then_picked, whole_is_due,
     whole_stream_is_due, written_is_datagram,
 };
-pub use receiver_laws::{each_frame_is_counted_once, malformed_frames_are_counted_alone};
+pub use receiver_laws::{
+    each_frame_is_counted_once, found_is_what_stands, malformed_frames_are_counted_alone,
+};
