@@ -47,7 +47,7 @@ split_bits before (b ∷ bytes) n some high = elim (leb_tells n (width_after bef
 ]
 
 -- a front of stuffed bytes is stuffed
-stuffed_front : (xs ys : List ℕ) → IsStuffed (xs ++ ys) → IsStuffed xs
+pub stuffed_front : (xs ys : List ℕ) → IsStuffed (xs ++ ys) → IsStuffed xs
 stuffed_front xs ys t i e = elim (cases_lt (i + 1) (length xs)) [
   | inl h ↦
       let low : i < length xs = omega arith in
@@ -149,7 +149,7 @@ front_of xs ys us vs e h =
     sym (take-append-drop (length ys) xs) ∙ ap (λ (l : List Bool). l ++ drop (length ys) xs) t
 
 -- the front of bytes are bytes
-bytes_front : (xs ys : List ℕ) → IsBytes (xs ++ ys) → IsBytes xs
+pub bytes_front : (xs ys : List ℕ) → IsBytes (xs ++ ys) → IsBytes xs
 bytes_front xs ys t i = elim (cases_lt i (length xs)) [
   | inl h ↦ let f : slice_index (xs ++ ys) i < 256 = t i in rw (get_or_append_left xs ys 0 i h) at f
   | inr h ↦ rw (get_or_past xs i 0 h) (let z : 0 < 256 = omega arith in z)

@@ -23,6 +23,7 @@ pub mod TreeLemmas
 pub mod WalkLemmas
 pub mod SeatLemmas
 pub mod GridLemmas
+pub mod BandLemmas
 pub mod HeaderLemmas
 pub mod OneWayLemmas
 pub mod ExponentLemmas
@@ -30,8 +31,6 @@ pub mod EmptyLemmas
 pub mod BytesLemmas
 pub mod InverseLemmas
 pub mod NodeLemmas
-pub mod WalkBack
-pub mod SeatBack
 pub mod PickLemmas
 pub mod GridsBack
 pub mod SoundLemmas
@@ -41,3 +40,18 @@ pub mod WorkedPacketHeaders
 pub mod OneBlock
 pub mod WorkedPackets
 pub mod WorkedRefusals
+pub mod PieceRuns
+pub mod StopLemmas
+pub mod JudgedPieces
+pub mod JudgedRuns
+pub mod RunTrees
+pub mod RunGrids
+pub mod RunsFound
+pub mod RunTreesBack
+pub mod RunSeatsBack
+pub mod RunGridsBack
+pub mod BitsJudged
+pub mod BytesJudged
+pub mod BytesBack
+pub mod VerdictLemmas
+pub mod LimitLemmas

@@ -14,7 +14,7 @@ cons_both : {X : Type 0} (x y : X) (xs ys : List X) → x ≡ y → xs ≡ ys �
 cons_both x y xs ys e f = cc
 
 -- of two fronts of a list one is the front of the other
-fronts : {X : Type 0} (xs ys us vs : List X) → xs ++ us ≡ ys ++ vs → (more : List X) × ((ys ≡ xs ++ more) ⊎ (xs ≡ ys ++ more))
+pub fronts : {X : Type 0} (xs ys us vs : List X) → xs ++ us ≡ ys ++ vs → (more : List X) × ((ys ≡ xs ++ more) ⊎ (xs ≡ ys ++ more))
 fronts [] ys us vs e = (ys, inl refl)
 fronts (x ∷ xs) [] us vs e = (x ∷ xs, inr refl)
 fronts {X} (x ∷ xs) (y ∷ ys) us vs e =

@@ -117,7 +117,7 @@ packed_by room before b bits (c ∷ more) e inner =
     (rw e (inner c more refl))
 
 -- a byte carries at least seven bits
-width-ge : (before : ℕ) → 7 ≤ width_after before
+pub width-ge : (before : ℕ) → 7 ≤ width_after before
 width-ge before = elim (width_cases before) [ inl t ↦ omega (arith, t.1) | inr t ↦ omega (arith, t.1) ]
 
 -- bits packed by computing

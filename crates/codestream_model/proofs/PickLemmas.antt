@@ -8,7 +8,7 @@ use Rattle.codestream_model.specs.HeaderPieces.{stands_at}
 use Rattle.codestream_model.specs.PacketHeader.{is_included}
 use Rattle.codestream_model.proofs.TreeLemmas.{AreDistinct, either}
 use Rattle.codestream_model.proofs.SeatLemmas.{all-behind, row_from, rows_from, stands_here, stands_apart, stands_beside}
-use Rattle.codestream_model.proofs.SeatBack.{Picked}
+use Rattle.codestream_model.proofs.RunSeatsBack.{Picked}
 
 -- picked code-blocks are of the band of the seats
 pub picked_band : (labels : Labels) (band : ℕ) (later : List Seat) (left : List Block) → Picked labels later left → AllByRecursion (λ (s : Seat). s.band ≡ band) later → AllByRecursion (λ (s : Seat). s.band ≡ band) (map seat_of left)

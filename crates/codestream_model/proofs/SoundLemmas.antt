@@ -12,13 +12,13 @@ use Rattle.codestream_model.proofs.InverseLemmas.{got_parts}
 use Rattle.codestream_model.proofs.GridsBack.{grids_say}
 
 -- bits that are read begin with a header's
-record BitsSay (gs : List Grid) (bits : List Bool) (out : List Block) (rest : List Bool) : Type 0 where
-  front : List Bool
-  whole : bits ≡ front ++ rest
-  some : 1 ≤ length front
-  is_header : HeaderBits gs out front
+pub record BitsSay (gs : List Grid) (bits : List Bool) (out : List Block) (rest : List Bool) : Type 0 where
+  pub front : List Bool
+  pub whole : bits ≡ front ++ rest
+  pub some : 1 ≤ length front
+  pub is_header : HeaderBits gs out front
 
-bits_say : (gs : List Grid) (bits : List Bool) (out : List Block) (rest : List Bool) → HaveOwnBands gs → read_bits gs bits ≡ Got out rest → BitsSay gs bits out rest
+pub bits_say : (gs : List Grid) (bits : List Bool) (out : List Block) (rest : List Bool) → HaveOwnBands gs → read_bits gs bits ≡ Got out rest → BitsSay gs bits out rest
 unfolding read_bits
 bits_say gs [] out rest bands e = absurd (cc)
 bits_say gs (false ∷ bits) out rest bands e =

@@ -82,7 +82,7 @@ header_of_one_block = record {
   bits = true ∷ true ∷ false ∷ false ∷ true ∷ false ∷ false ∷ false ∷ true ∷ false ∷ [];
   is_header = inr (one_block 2 1 2 0 3 (true ∷ true ∷ false ∷ false ∷ true ∷ false ∷ false ∷ false ∷ true ∷ false ∷ [])
       (record { planes = omega arith; some_passes = omega arith; few_passes = omega arith; some_cleanup = omega arith; short_cleanup = omega arith; short_refine = omega arith; no_refine = λ e. refl })
-      (record { least = omega arith; cleanup = omega arith; refine = λ e. omega arith }) (omega arith) refl);
+      (record { least = omega arith; cleanup = omega arith; refine = λ e. omega arith; none = λ e. omega arith }) (omega arith) refl);
   packs = packs_one;
   short = omega arith;
 }
@@ -123,7 +123,7 @@ header_of_long_block = record {
   bits = true ∷ true ∷ true ∷ false ∷ true ∷ true ∷ true ∷ true ∷ false ∷ true ∷ true ∷ false ∷ false ∷ true ∷ false ∷ false ∷ [];
   is_header = inr (one_block 0 1 100 0 7 (true ∷ true ∷ true ∷ false ∷ true ∷ true ∷ true ∷ true ∷ false ∷ true ∷ true ∷ false ∷ false ∷ true ∷ false ∷ false ∷ [])
       (record { planes = omega arith; some_passes = omega arith; few_passes = omega arith; some_cleanup = omega arith; short_cleanup = omega arith; short_refine = omega arith; no_refine = λ e. refl })
-      (record { least = omega arith; cleanup = omega arith; refine = λ e. omega arith }) (omega arith) refl);
+      (record { least = omega arith; cleanup = omega arith; refine = λ e. omega arith; none = λ e. omega arith }) (omega arith) refl);
   packs = packs_long;
   short = omega arith;
 }

@@ -26,7 +26,7 @@ four_passes_are_refused = record {
   fault = record {
     blocks = block 0 4 0 0 ∷ [];
     choices = one_choice 0 3;
-    can_say = one_can_say 0 4 0 0 3 (omega arith) (omega arith) (record { least = omega arith; cleanup = omega arith; refine = λ e. omega arith });
+    can_say = one_can_say 0 4 0 0 3 (omega arith) (omega arith) (record { least = omega arith; cleanup = omega arith; refine = λ e. omega arith; none = λ e. omega arith });
     before = InclusionPiece true ∷ PlanesPiece (record { from = 0; to = 0 }) ∷ [];
     piece = PassesPiece 4;
     after = LblockPiece 3 ∷ CleanupPiece 3 0 ∷ RefinePiece 4 0 ∷ [];
@@ -51,7 +51,7 @@ a_short_cleanup_is_refused = record {
   fault = record {
     blocks = block 0 1 1 0 ∷ [];
     choices = one_choice 0 3;
-    can_say = one_can_say 0 1 1 0 3 (omega arith) (omega arith) (record { least = omega arith; cleanup = omega arith; refine = λ e. omega arith });
+    can_say = one_can_say 0 1 1 0 3 (omega arith) (omega arith) (record { least = omega arith; cleanup = omega arith; refine = λ e. omega arith; none = λ e. omega arith });
     before = InclusionPiece true ∷ PlanesPiece (record { from = 0; to = 0 }) ∷ PassesPiece 1 ∷ LblockPiece 3 ∷ [];
     piece = CleanupPiece 3 1;
     after = [];
@@ -72,7 +72,7 @@ wants_more = record {
   unfinished = inr (inl (record {
     blocks = block 0 1 2 0 ∷ [];
     choices = one_choice 0 15;
-    can_say = one_can_say 0 1 2 0 15 (omega arith) (omega arith) (record { least = omega arith; cleanup = omega arith; refine = λ e. omega arith });
+    can_say = one_can_say 0 1 2 0 15 (omega arith) (omega arith) (record { least = omega arith; cleanup = omega arith; refine = λ e. omega arith; none = λ e. omega arith });
     before = InclusionPiece true ∷ PlanesPiece (record { from = 0; to = 0 }) ∷ PassesPiece 1 ∷ [];
     piece = LblockPiece 15;
     after = CleanupPiece 15 2 ∷ [];
@@ -113,7 +113,7 @@ wants_closing = record {
     bits = true ∷ true ∷ true ∷ false ∷ replicate 8 true ++ replicate 4 false ++ replicate 8 true;
     is_header = inr (one_block 0 1 255 0 11 (true ∷ true ∷ true ∷ false ∷ replicate 8 true ++ replicate 4 false ++ replicate 8 true)
         (record { planes = omega arith; some_passes = omega arith; few_passes = omega arith; some_cleanup = omega arith; short_cleanup = omega arith; short_refine = omega arith; no_refine = λ e. refl })
-        (record { least = omega arith; cleanup = omega arith; refine = λ e. omega arith }) (omega arith) refl);
+        (record { least = omega arith; cleanup = omega arith; refine = λ e. omega arith; none = λ e. omega arith }) (omega arith) refl);
     front = 239 ∷ 240 ∷ [];
     pad = [];
     whole = refl;

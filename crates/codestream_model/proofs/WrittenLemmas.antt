@@ -11,9 +11,8 @@ use Rattle.codestream_model.specs.PacketHeader.{HaveOwnBands, is_included, IsWit
 use Rattle.codestream_model.specs.PacketLaws.{WrittenIsHeader}
 use Rattle.codestream_model.proofs.TreeLemmas.{either, above, equal_number, same_number, and_false, AreDistinct}
 use Rattle.codestream_model.proofs.SeatLemmas.{all-append, all-map, all-filter, seats_distinct, eqb_sym, stands_here}
-use Rattle.codestream_model.proofs.HeaderLemmas.{band_of_seats, other_bands}
+use Rattle.codestream_model.proofs.BandLemmas.{band_of_seats, other_bands}
 use Rattle.codestream_model.proofs.ExponentLemmas.{exponent_is_least}
-use Rattle.codestream_model.proofs.GridsBack.{passes_back_limits}
 
 -- what lies below a node lies below its parent
 below_up : (band level : ℕ) (s : Seat) (b : Block) → is_below band level (s.col / 2 ^ level) (s.row / 2 ^ level) b ≡ true → is_below band (level + 1) (s.col / 2 ^ (level + 1)) (s.row / 2 ^ (level + 1)) b ≡ true
@@ -194,6 +193,7 @@ lblock_fits b l =
               let up : 2 ^ exponent (b.refine + 1) ≤ 2 ^ (least_lblock b + 1) = pow-le-pow_right (omega arith) (fits_more b) in
               rw t.0 (omega (arith, r.0))
         ];
+        none = l.no_refine;
       },
       lblock_low b c_low r_low,
     )
@@ -218,6 +218,11 @@ planes_all : (blocks : List Block) (gs : List Grid) → StandAlone blocks → Al
 planes_all blocks [] a l = tt
 planes_all blocks (g ∷ gs) a l = (written_planes blocks g a l, planes_all blocks gs a l)
 
+-- passes within the limits
+passes_within : (blocks : List Block) → AllByRecursion IsWithinLimits blocks → AllByRecursion (λ (b : Block). (1 ≤ b.passes) × (b.passes ≤ 6)) blocks
+passes_within [] a = tt
+passes_within (b ∷ blocks) a = ((a.0.some_passes, omega (arith, a.0.few_passes)), passes_within blocks a.1)
+
 -- what our writer gives says them
 pub written_is_header : WrittenIsHeader
 written_is_header gs [] bands are = inl (refl, refl)
@@ -229,7 +234,7 @@ written_is_header gs (b ∷ more) bands are =
     let lengths = lblocks_fit blocks blocks alone are.limits in
     inr (record {
       choices = least_choices blocks;
-      can_say = record { seated = are.seated; inclusion = inclusion_all blocks gs; planes = planes_all blocks gs alone are.limits; passes = passes_back_limits blocks are.limits; lengths = lengths.0 };
+      can_say = record { seated = are.seated; inclusion = inclusion_all blocks gs; planes = planes_all blocks gs alone are.limits; passes = passes_within blocks are.limits; lengths = lengths.0 };
       limits = are.limits;
       lblocks = lengths.1;
       whole = refl;

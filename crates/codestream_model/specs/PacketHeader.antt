@@ -47,11 +47,13 @@ pub record LabelsPlanes (blocks : List Block) (labels : Labels) (g : Grid) : Typ
   pub never_falls : NeverFalls g labels
   pub leaves : AllByRecursion (λ b. b.band ≡ g.band → label labels 0 (seat_of b) ≡ b.planes) blocks
 
--- the lengths of a code-block fit the bits that they have with this Lblock, which is at least 3
+-- the lengths of a code-block fit the bits that they have with this Lblock, which is at least 3; with one pass there is no
+-- refinement segment, and its length is 0
 pub record FitLengths (lblock : ℕ) (b : Block) : Type 0 where
   pub least : 3 ≤ lblock
   pub cleanup : b.cleanup < 2 ^ lblock
   pub refine : b.passes ≢ 1 → b.refine < 2 ^ refine_width b.passes lblock
+  pub none : b.passes ≡ 1 → b.refine ≡ 0
 
 -- with these choices a header can say these code-blocks, if all limits are left aside
 pub record CanSay (grids : List Grid) (choices : Choices) (blocks : List Block) : Type 0 where

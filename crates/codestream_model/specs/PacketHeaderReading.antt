@@ -1,5 +1,6 @@
 -- A packet header read by computing, from the front. The laws `HeadersAreSound` and `HeadersAreRead` say that what is read is a
--- header, and that each header is read so.
+-- header, and that each header is read so; `RefusalsAreSound`, `RefusalsAreRead`, `NeedsAreSound` and `NeedsAreRead` say the
+-- same of what is refused and of what wants more bytes.
 use Rattle.std.specs.Prelude.{◌+◌, ◌-◌, ◌/◌, ◌^◌, ◌==◌, ◌&&◌, ◌++◌, ℕ, suc, Bool, true, false, List, [], ◌∷◌, length, take, drop, slice_index, nat_le, nat_lt, Option, Some, None, if◌then◌else◌}
 use Rattle.codestream_model.specs.Values.{Grid, Block}
 use Rattle.codestream_model.specs.StuffedBits.{number_of, packed_bits, bytes_of_bits}

@@ -5,8 +5,9 @@ use Rattle.codestream_model.specs.Values.{Head, Place, Grid, Block}
 use Rattle.codestream_model.specs.Bytes.{IsBytes}
 use Rattle.codestream_model.specs.StuffedBits.{carried, Packs, packing}
 use Rattle.codestream_model.specs.TagTrees.{exponent}
-use Rattle.codestream_model.specs.PacketHeader.{HaveOwnBands, AreBlocks, HeaderBits, SpellsHeader, written_bits}
-use Rattle.codestream_model.specs.PacketHeaderReading.{Done, header_of}
+use Rattle.codestream_model.specs.HeaderPieces.{HeaderRefusal}
+use Rattle.codestream_model.specs.PacketHeader.{HaveOwnBands, AreBlocks, HeaderBits, SpellsHeader, RefusesHeader, NeedsHeaderBytes, written_bits}
+use Rattle.codestream_model.specs.PacketHeaderReading.{Done, Need, Bad, header_of}
 use Rattle.codestream_model.specs.Precincts.{grids}
 use Rattle.codestream_model.specs.Packet.{Content, SpellsPacket}
 use Rattle.codestream_model.specs.Codestream.{SpellsPackets}
@@ -34,6 +35,52 @@ HeadersAreRead = (gs : List Grid) (blocks : List Block) (header more : List ℕ)
 -- and what is read of bytes is a header at their front
 abbrev pub HeadersAreSound : Type 0
 HeadersAreSound = (gs : List Grid) (bytes : List ℕ) (used : ℕ) (blocks : List Block) → IsBytes bytes → HaveOwnBands gs → header_of gs bytes ≡ Done used blocks → SpellsHeader gs blocks (take used bytes)
+
+-- bytes that are refused are read as refused, for the same reason
+abbrev pub RefusalsAreRead : Type 0
+RefusalsAreRead = (gs : List Grid) (bytes : List ℕ) (why : HeaderRefusal) → HaveOwnBands gs → RefusesHeader gs bytes why → header_of gs bytes ≡ Bad why
+
+-- and what is read as refused is refused
+abbrev pub RefusalsAreSound : Type 0
+RefusalsAreSound = (gs : List Grid) (bytes : List ℕ) (why : HeaderRefusal) → IsBytes bytes → HaveOwnBands gs → header_of gs bytes ≡ Bad why → RefusesHeader gs bytes why
+
+-- bytes that end before a header does, and before it is refused, are read so
+abbrev pub NeedsAreRead : Type 0
+NeedsAreRead = (gs : List Grid) (bytes : List ℕ) → HaveOwnBands gs → NeedsHeaderBytes gs bytes → header_of gs bytes ≡ Need
+
+-- and what is read so ends before a header does, and before it is refused
+abbrev pub NeedsAreSound : Type 0
+NeedsAreSound = (gs : List Grid) (bytes : List ℕ) → IsBytes bytes → HaveOwnBands gs → header_of gs bytes ≡ Need → NeedsHeaderBytes gs bytes
+
+-- the bytes begin with a header
+abbrev pub BeginWithHeader : List Grid → List ℕ → Type 0
+BeginWithHeader gs bytes = (blocks : List Block) × (header : List ℕ) × (more : List ℕ) × SpellsHeader gs blocks header × (bytes ≡ header ++ more)
+
+-- bytes begin with a header, or are refused, or end before a header does
+abbrev pub PacketHeadersAreJudged : Type 0
+PacketHeadersAreJudged =
+    (gs : List Grid) (bytes : List ℕ) → IsBytes bytes → HaveOwnBands gs
+    → BeginWithHeader gs bytes ⊎ (((why : HeaderRefusal) × RefusesHeader gs bytes why) ⊎ NeedsHeaderBytes gs bytes)
+
+-- one of these three alone holds of bytes, and a refusal has one reason
+pub record HasOneVerdict (gs : List Grid) (bytes : List ℕ) : Type 0 where
+  pub one_reason : (why other : HeaderRefusal) → RefusesHeader gs bytes why → RefusesHeader gs bytes other → why ≡ other
+  pub not_refused : BeginWithHeader gs bytes → (why : HeaderRefusal) → RefusesHeader gs bytes why → ⊥
+  pub not_unfinished : BeginWithHeader gs bytes → NeedsHeaderBytes gs bytes → ⊥
+  pub not_both : (why : HeaderRefusal) → RefusesHeader gs bytes why → NeedsHeaderBytes gs bytes → ⊥
+
+-- so it is with all bytes
+abbrev pub PacketHeadersHaveOneVerdict : Type 0
+PacketHeadersHaveOneVerdict = (gs : List Grid) (bytes : List ℕ) → HaveOwnBands gs → HasOneVerdict gs bytes
+
+-- a refusal stays, whatever follows
+abbrev pub RefusalsStay : Type 0
+RefusalsStay = (gs : List Grid) (bytes more : List ℕ) (why : HeaderRefusal) → RefusesHeader gs bytes why → RefusesHeader gs (bytes ++ more) why
+
+-- a header without its last bytes is unfinished
+abbrev pub HeaderFrontsNeedBytes : Type 0
+HeaderFrontsNeedBytes =
+    (gs : List Grid) (blocks : List Block) (front rest : List ℕ) → HaveOwnBands gs → SpellsHeader gs blocks (front ++ rest) → 1 ≤ length rest → NeedsHeaderBytes gs front
 
 -- bytes begin with one header at most, and it says one thing; so no header is the front of another
 abbrev pub HeadersAreReadOneWay : Type 0

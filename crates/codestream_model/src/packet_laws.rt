@@ -1,6 +1,6 @@
 //! The laws of the definitions, each on a function that does nothing.
 
-ghost use Rattle.codestream_model.specs.PacketLaws.{PackingPacks, PackedBitsAreCarried, PackedBitsAgree, ExponentIsLeast, EmptyPacketIsRead, HeadersAreRead, HeadersAreSound, HeadersAreReadOneWay, WrittenIsHeader, PacketsAreReadOneWay, PacketRunsAreReadOneWay};
+ghost use Rattle.codestream_model.specs.PacketLaws.{PackingPacks, PackedBitsAreCarried, PackedBitsAgree, ExponentIsLeast, EmptyPacketIsRead, HeadersAreRead, HeadersAreSound, RefusalsAreRead, RefusalsAreSound, NeedsAreRead, NeedsAreSound, PacketHeadersAreJudged, PacketHeadersHaveOneVerdict, RefusalsStay, HeaderFrontsNeedBytes, HeadersAreReadOneWay, WrittenIsHeader, PacketsAreReadOneWay, PacketRunsAreReadOneWay};
 
 /// Bits that are packed by computing are packed, with pad bits that are 0.
 pub fn bits_that_are_packed_by_computing_are_packed()
@@ -35,6 +35,46 @@ pub fn headers_are_read()
 /// What is read of bytes is a header at their front.
 pub fn headers_are_sound()
     ensures { HeadersAreSound }
+{}
+
+/// Bytes that are refused are read as refused, for the same reason.
+pub fn refusals_are_read()
+    ensures { RefusalsAreRead }
+{}
+
+/// What is read as refused is refused.
+pub fn refusals_are_sound()
+    ensures { RefusalsAreSound }
+{}
+
+/// Bytes that end before a header does, and before it is refused, are read so.
+pub fn needs_are_read()
+    ensures { NeedsAreRead }
+{}
+
+/// What is read so ends before a header does, and before it is refused.
+pub fn needs_are_sound()
+    ensures { NeedsAreSound }
+{}
+
+/// Bytes begin with a header, or are refused, or end before a header does.
+pub fn packet_headers_are_judged()
+    ensures { PacketHeadersAreJudged }
+{}
+
+/// One of these three alone holds of bytes, and a refusal has one reason.
+pub fn packet_headers_have_one_verdict()
+    ensures { PacketHeadersHaveOneVerdict }
+{}
+
+/// A refusal stays, whatever follows.
+pub fn refusals_stay()
+    ensures { RefusalsStay }
+{}
+
+/// A header without its last bytes is unfinished.
+pub fn header_fronts_need_bytes()
+    ensures { HeaderFrontsNeedBytes }
 {}
 
 /// Bytes begin with one header at most, and it says one thing.

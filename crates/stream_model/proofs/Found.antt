@@ -22,7 +22,7 @@ use Rattle.stream_model.proofs.StreamShapes.{sum-take-up, counts_front}
 some_bytes : (xs : List ℕ) (y : ℕ) (ys : List ℕ) → 1 ≤ length (xs ++ y ∷ ys)
 some_bytes xs y ys = omega (arith, length-append xs (y ∷ ys))
 
-packet_has_bytes : (h : Head) (p : Place) (x : Content) (b : List ℕ) → SpellsPacket h p x b → 1 ≤ length b
+pub packet_has_bytes : (h : Head) (p : Place) (x : Content) (b : List ℕ) → SpellsPacket h p x b → 1 ≤ length b
 packet_has_bytes h p x b r =
     let packs = r.is_header.packs in
     let header : 1 ≤ length r.header = (let P : List ℕ → Type 0 = λ ys. 1 ≤ length ys in subst P (sym packs.whole) (some_bytes packs.front packs.last packs.closing)) in

@@ -30,3 +30,7 @@ pub mod WorkedReceivers
 pub mod WorkedCommands
 pub mod WorkedQueues
 pub mod CountedFrames
+pub mod PacketsFound
+pub mod ParsedPackets
+pub mod ParsedInputs
+pub mod ReadPackets

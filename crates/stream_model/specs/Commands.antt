@@ -50,7 +50,7 @@ walk h stamp at (p ∷ places) bytes = elim (found_packet h p bytes) [
 ]
 
 -- the precincts of codestreams one after another, of at most so many, up to the first fault; the i-th has the stamp
--- `stamp` + i × `step`
+-- `stamp` + i × `step`; the law `ParseWritesWholePackets` says which these are
 abbrev pub walk_behind : Result Head Refused → ℕ → List ℕ → Walked
 walk_behind (Err why) stamp bytes = stopped bytes
 walk_behind (Ok h) stamp bytes = walk h stamp h.length (packet_order h) (drop h.length bytes)

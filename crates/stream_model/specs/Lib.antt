@@ -12,3 +12,4 @@ pub mod Commands
 pub mod Queue
 pub mod Reading
 pub mod ReceiverLaws
+pub mod CommandLaws

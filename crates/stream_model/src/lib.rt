@@ -5,9 +5,14 @@
 //! nothing.
 #![tactic(auto)]
 
+mod command_laws;
 mod laws;
 mod receiver_laws;
 
+pub use command_laws::{
+    parse_writes_inputs, parse_writes_up_to_fault, parse_writes_whole_packets,
+    reads_have_whole_packets,
+};
 pub use laws::{
     base_is_least, base_never_falls, below_base_is_decided, body_has_byte, chunks_are_full,
     closed_stays, cut_is_stream, due_grows, events_are_one, in_time_is_computed, in_time_is_listed,
@@ -16,4 +21,6 @@ pub use laws::{
     stretches_are_runs, thinned_does_not_arrive, thinned_then_picked, whole_is_due,
     whole_stream_is_due, written_is_datagram,
 };
-pub use receiver_laws::{each_frame_is_counted_once, malformed_frames_are_counted_alone};
+pub use receiver_laws::{
+    each_frame_is_counted_once, found_is_what_stands, malformed_frames_are_counted_alone,
+};
