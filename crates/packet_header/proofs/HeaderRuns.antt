@@ -5,7 +5,7 @@ use Rattle.std.proofs.lemmas.Bool.Decides.{leb_tells, eqb_tells}
 use Rattle.std.proofs.lemmas.List.{length-append, length-take, length-drop, take-append-drop, take_all}
 use Rattle.codestream_model.specs.Values as values
 use Rattle.codestream_model.specs.StuffedBits.{number_bits, width_after, carried_after, carried, sound_after, packed_bits, bytes_of_bits}
-use Rattle.codestream_model.specs.HeaderPieces.{HeaderRefusal}
+use Rattle.codestream_model.specs.HeaderPieces.{HeaderRefusal, Stuffed, ZeroPlanes, Passes, LengthBits, CleanupShort, CleanupLong, RefineLong, TooLong}
 use Rattle.codestream_model.specs.PacketHeader.{HaveOwnBands}
 use Rattle.codestream_model.specs.PacketHeaderReading.{HeaderReading, Done, Need, Bad, Read, Got, AtEnd, Refused, read_grids, read_bits, end_by, at_end, closed_by, readable_bits, answer_of, header_of}
 use Rattle.codestream_model.proofs.BitLemmas.{number_bits-length}
@@ -19,6 +19,8 @@ use Rattle.packet_header.specs.Closing.{closed_after, closes}
 use Rattle.packet_header.specs.Seats.{StopsSo, BlocksRead}
 use Rattle.packet_header.specs.Headers.{ReadsHeader, out_of}
 use Rattle.packet_header.specs.declared.block.Block.{Block}
+use Rattle.packet_header.specs.declared.refusal.HeaderWhy.{HeaderWhy}
+use Rattle.packet_header.specs.declared.refusal.HeaderWhy.TheVariants as reason
 use Rattle.packet_header.specs.declared.refusal.HeaderOut.{HeaderOut}
 use Rattle.packet_header.specs.declared.refusal.HeaderOut.TheVariants as out
 use Rattle.packet_header.specs.declared.source.Source.{Source}
@@ -172,3 +174,47 @@ told_header (Bad why) answer now used a e = absurd (let f : out.Bad (why_of why)
 -- and one that is read is told
 pub header_told : (r : HeaderReading) (answer : HeaderOut) (now : List Block) (used : ℕ) (blocks : List values.Block) → Tells r answer now → r ≡ Done used blocks → (answer ≡ out.Done used) × (map block_of now ≡ blocks)
 header_told r answer now used blocks a e = let P : HeaderReading → Type 0 = λ x. Tells x answer now in subst P e a
+
+-- the reason that an answer gives
+abbrev refusal_of : HeaderWhy → HeaderRefusal
+refusal_of reason.Stuffed = Stuffed
+refusal_of reason.ZeroPlanes = ZeroPlanes
+refusal_of reason.Passes = Passes
+refusal_of reason.LengthBits = LengthBits
+refusal_of reason.CleanupShort = CleanupShort
+refusal_of reason.CleanupLong = CleanupLong
+refusal_of reason.RefineLong = RefineLong
+refusal_of reason.TooLong = TooLong
+
+reason_back : (why : HeaderRefusal) → refusal_of (why_of why) ≡ why
+reason_back Stuffed = refl
+reason_back ZeroPlanes = refl
+reason_back Passes = refl
+reason_back LengthBits = refl
+reason_back CleanupShort = refl
+reason_back CleanupLong = refl
+reason_back RefineLong = refl
+reason_back TooLong = refl
+
+same_reason : (x y : HeaderWhy) → out.Bad x ≡ out.Bad y → x ≡ y
+same_reason x y e = cc
+
+-- a refusal that was told is one that is read, and the other way round
+pub told_refusal : (r : HeaderReading) (answer : HeaderOut) (now : List Block) (why : HeaderRefusal) → Tells r answer now → answer ≡ out.Bad (why_of why) → r ≡ Bad why
+told_refusal (Done n blocks) answer now why a e = absurd (let f : out.Done n ≡ out.Bad (why_of why) = sym a.0 ∙ e in cc)
+told_refusal Need answer now why a e = absurd (let f : out.Need ≡ out.Bad (why_of why) = sym a ∙ e in cc)
+told_refusal (Bad other) answer now why a e =
+    let f : why_of other ≡ why_of why = same_reason (why_of other) (why_of why) (sym a ∙ e) in
+    ap Bad (sym (reason_back other) ∙ (ap refusal_of f ∙ reason_back why))
+
+pub refusal_told : (r : HeaderReading) (answer : HeaderOut) (now : List Block) (why : HeaderRefusal) → Tells r answer now → r ≡ Bad why → answer ≡ out.Bad (why_of why)
+refusal_told r answer now why a e = let P : HeaderReading → Type 0 = λ x. Tells x answer now in subst P e a
+
+-- and so it is with want of bytes
+pub told_need : (r : HeaderReading) (answer : HeaderOut) (now : List Block) → Tells r answer now → answer ≡ out.Need → r ≡ Need
+told_need (Done n blocks) answer now a e = absurd (let f : out.Done n ≡ out.Need = sym a.0 ∙ e in cc)
+told_need Need answer now a e = refl
+told_need (Bad why) answer now a e = absurd (let f : out.Bad (why_of why) ≡ out.Need = sym a ∙ e in cc)
+
+pub need_told : (r : HeaderReading) (answer : HeaderOut) (now : List Block) → Tells r answer now → r ≡ Need → answer ≡ out.Need
+need_told r answer now a e = let P : HeaderReading → Type 0 = λ x. Tells x answer now in subst P e a

@@ -1,11 +1,12 @@
 //! The reader of packet headers.
-ghost use Rattle.std.specs.Prelude.{◌≡◌, ◌≤◌, ◌++◌, ℕ, List, map, take, length, IfOk, Result};
+ghost use Rattle.std.specs.Prelude.{◌≡◌, ◌≤◌, ◌++◌, ◌↔◌, ℕ, List, map, take, length, IfOk, Result};
 ghost use Rattle.codestream_model.specs.Values as values;
 ghost use Rattle.codestream_model.specs.Packet.{block_count};
-ghost use Rattle.codestream_model.specs.PacketHeader.{HaveOwnBands, SpellsHeader};
+ghost use Rattle.codestream_model.specs.PacketHeader.{HaveOwnBands, SpellsHeader, RefusesHeader, NeedsHeaderBytes};
+ghost use Rattle.codestream_model.specs.HeaderPieces.{HeaderRefusal};
 ghost use Rattle.codestream_model.specs.PacketHeaderReading.{header_of};
 ghost use Rattle.precinct_geometry.specs.Spans.{grid_of};
-ghost use Rattle.packet_header.specs.Answers.{block_of, Tells};
+ghost use Rattle.packet_header.specs.Answers.{why_of, block_of, Tells};
 ghost use Rattle.packet_header.specs.Headers.{out_of};
 
 use crate::block::Block;
@@ -72,8 +73,9 @@ impl HeaderReader {
     /// Reads the header at the front of bytes (T.800 B.10), of a precinct whose grids of code-blocks are `bands`: no two of the same
     /// band, and no more code-blocks than there is room for.
     ///
-    /// `Done` comes exactly where the bytes begin with a header of at most 65,536 bytes, whatever follows it. `Bad` comes where they
-    /// are refused within their first 65,536 bytes, and `Need` where they end before a header does, and before it is refused.
+    /// `Done` comes exactly where the bytes begin with a header of at most 65,536 bytes, whatever follows it; `Bad` exactly where
+    /// they are refused for this reason, by a bit within their first 65,536 bytes or since a further byte is needed; and `Need`
+    /// exactly where they end before a header does, and before it is refused.
     pub fn read(&mut self, bands: &Bands, bytes: &[u8]) -> HeaderOut
         requires own_bands { HaveOwnBands (map grid_of bands.now.items) }
         requires room { block_count (map grid_of bands.now.items) ≤ self.old.room }
@@ -81,6 +83,8 @@ impl HeaderReader {
         ensures judged { Tells (header_of (map grid_of bands.now.items) bytes.now) result self.new.blocks }
         ensures found { (used : ℕ) → result ≡ HeaderOut.Done used → SpellsHeader (map grid_of bands.now.items) (map block_of self.new.blocks) (take used bytes.now) }
         ensures only { (blocks : List values.Block) (header more : List ℕ) → SpellsHeader (map grid_of bands.now.items) blocks header → bytes.now ≡ header ++ more → (result ≡ HeaderOut.Done (length header)) × (map block_of self.new.blocks ≡ blocks) }
+        ensures refused { (why : HeaderRefusal) → (result ≡ HeaderOut.Bad (why_of why)) ↔ RefusesHeader (map grid_of bands.now.items) bytes.now why }
+        ensures needs { (result ≡ HeaderOut.Need) ↔ NeedsHeaderBytes (map grid_of bands.now.items) bytes.now }
     {
         let front = &bytes[..bytes.len().min(LONGEST)];
         self.blocks.clear();
