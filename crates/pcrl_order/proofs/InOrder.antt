@@ -115,7 +115,7 @@ each_before h ys steps p up =
     (λ k d lt. elim (up k d lt) [ inl before ↦ before | inr same ↦ absurd (apart k (suc k) d (omega arith) (omega arith) lt same) ])
 
 -- each header within the limits has steps of at least 1
-has_steps : (h : Head) → IsWithinLimits h → HasSteps h
+pub has_steps : (h : Head) → IsWithinLimits h → HasSteps h
 has_steps h limits = All-weaker IsStep (λ step. (0 < step.x) × (0 < step.y)) (λ step is. (is.some_x, is.some_y)) h.steps limits.each_step
 
 -- the precincts in this order are the packet order

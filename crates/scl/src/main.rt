@@ -15,6 +15,7 @@ scl carries JPEG 2000 codestreams over RTP. It reads standard input and writes s
   scl thin T      passes on the frames of a capture that serve a receiver with the limit T, 0 to 7:
                   each Main, and each Body whose RES is at most T
   scl head        shows the main header at the front of a codestream, a line for each of its values
+  scl order       shows the precincts of that header's image in packet order, a line for each
   scl --help      this page
   scl --version   the version
 

@@ -1,5 +1,7 @@
 pub mod HeadText
 pub mod Looking
+pub mod Shown
+pub mod Ordered
 pub mod Keeping
 pub mod TurnsTaken
 pub mod SoFar

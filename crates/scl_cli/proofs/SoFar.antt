@@ -18,7 +18,7 @@ use Rattle.scl_cli.specs.declared.command.Command.TheVariants.{Thin}
 use Rattle.scl_cli.specs.declared.ending.Reason.TheVariants.{CutFrame, InputTooLong, Header}
 use Rattle.scl_cli.specs.declared.ending.Reason.{Reason}
 use Rattle.scl_cli.specs.declared.ending.Ending.{Ending}
-use Rattle.scl_cli.specs.declared.ending.Ending.TheVariants.{Done, ReadFault, WriteFault, Refused}
+use Rattle.scl_cli.specs.declared.ending.Ending.TheVariants.{Done, ReadFault, WriteFault, Refused, NoMemory}
 use Rattle.scl_cli.specs.declared.thinning.Turn.TheVariants.{Frame, Stop}
 use Rattle.scl_cli.specs.Made.{made, Accepts, RefusesCapture, IsReadToEnd}
 use Rattle.scl_cli.specs.Performing.{Performs, PerformGives, passed}
@@ -164,6 +164,7 @@ ends limit t u before after (Refused r) es fs s so n = refused r.reason r.at n.g
         tt,
       )
   refused (Header why) place h = absurd h
+ends limit t u before after NoMemory es fs s so n = absurd n.gives
 
 -- the end of a run
 pub ended : (limit : ℕ) (s t u : Meaning) (before after : FramesState) (ending : Ending) (es fs : List Event) → SoFar limit s t before.offset es → Turns limit before after t u (Stop ending) fs → Performs (Thin limit) s u ending (es ++ fs)

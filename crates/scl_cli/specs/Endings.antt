@@ -6,7 +6,7 @@ use Rattle.scl_outside.specs.Steps.{Step}
 use Rattle.scl_cli.specs.Reasons.{reason_text}
 use Rattle.scl_cli.specs.declared.ending.Refusal.{Refusal}
 use Rattle.scl_cli.specs.declared.ending.Ending.{Ending}
-use Rattle.scl_cli.specs.declared.ending.Ending.TheVariants.{Done, ReadFault, WriteFault, Refused}
+use Rattle.scl_cli.specs.declared.ending.Ending.TheVariants.{Done, ReadFault, WriteFault, Refused, NoMemory}
 
 -- the line for an input that is refused: the offset and the reason
 abbrev pub refusal_line : Refusal → List ℕ
@@ -21,6 +21,7 @@ status_of Done = 0
 status_of ReadFault = 3
 status_of WriteFault = 4
 status_of (Refused r) = 6
+status_of NoMemory = 7
 
 -- what is noted: nothing where the job was done
 abbrev pub line_of : Ending → List ℕ
@@ -28,6 +29,7 @@ line_of Done = []
 line_of ReadFault = codes "scl: read fault\n"
 line_of WriteFault = codes "scl: write fault\n"
 line_of (Refused r) = refusal_line r
+line_of NoMemory = codes "scl: memory\n"
 
 -- a line is noted, or nothing is done at all
 abbrev pub Notes : List ℕ → Meaning → Meaning → Type 0

@@ -2,8 +2,10 @@ pub mod Commands
 pub mod Reasons
 pub mod Endings
 pub mod HeadLines
+pub mod OrderLines
 pub mod Made
 pub mod Performing
 pub mod Thinning
+pub mod Finding
 pub mod Showing
 pub mod Runs

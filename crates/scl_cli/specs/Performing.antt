@@ -1,13 +1,13 @@
 -- What performing a command does, before its ending is told to the user.
-use Rattle.std.specs.Prelude.{◌≡◌, ◌++◌, ℕ, true, false, List}
+use Rattle.std.specs.Prelude.{◌≡◌, ◌++◌, ℕ, true, false, List, []}
 use Rattle.scl_outside.specs.Meaning.{Meaning}
 use Rattle.scl_outside.specs.Events.{Event}
 use Rattle.scl_outside.specs.Effects.{Effects, nothing, effects}
 use Rattle.scl_outside.specs.Traces.{Trace, AtReads}
 use Rattle.scl_cli.specs.declared.command.Command.{Command}
 use Rattle.scl_cli.specs.declared.ending.Ending.{Ending}
-use Rattle.scl_cli.specs.declared.ending.Ending.TheVariants.{Done, ReadFault, WriteFault, Refused}
-use Rattle.scl_cli.specs.Made.{made, Accepts, Refuses, IsReadToEnd, IsFinished, IsEnough}
+use Rattle.scl_cli.specs.declared.ending.Ending.TheVariants.{Done, ReadFault, WriteFault, Refused, NoMemory}
+use Rattle.scl_cli.specs.Made.{made, Accepts, Refuses, IsReadToEnd, IsFinished, IsEnough, MayWantMemory}
 
 -- bytes were read and bytes were written, and nothing else was done
 abbrev pub passed : List ℕ → List ℕ → Effects
@@ -20,6 +20,7 @@ PerformGives command ReadFault f t = f ≡ record (passed f.read (made command f
 PerformGives command WriteFault f t =
     (rest : List ℕ) × (made command f.read false ≡ f.written ++ rest) × (f ≡ record (passed f.read f.written) { write_failed = true })
 PerformGives command (Refused r) f t = (f ≡ passed f.read (made command f.read false)) × Refuses command f.read r × IsReadToEnd r.reason t
+PerformGives command NoMemory f t = (f ≡ passed f.read []) × Accepts command f.read × IsFinished command t × MayWantMemory command
 
 -- a command is performed, and each output goes out as soon as its input has come
 pub record Performs (command : Command) (s t : Meaning) (ending : Ending) (es : List Event) : Type 0 where

@@ -13,7 +13,7 @@ use Rattle.capture_frames.specs.Reading.{input_limit, left_at}
 use Rattle.capture_frames.specs.Writing.{Never}
 use Rattle.scl_cli.specs.declared.ending.Reason.{Reason}
 use Rattle.scl_cli.specs.declared.ending.Reason.TheVariants.{CutFrame, InputTooLong, Header}
-use Rattle.scl_cli.specs.declared.ending.Ending.TheVariants.{Done, ReadFault, WriteFault, Refused}
+use Rattle.scl_cli.specs.declared.ending.Ending.TheVariants.{Done, ReadFault, WriteFault, Refused, NoMemory}
 use Rattle.scl_cli.specs.declared.thinning.Turn.{Turn}
 use Rattle.scl_cli.specs.declared.thinning.Turn.TheVariants.{Frame, Stop}
 use Rattle.scl_cli.specs.Performing.{passed}
@@ -57,6 +57,7 @@ TurnGives limit before after (Stop WriteFault) f t =
     (d : List ℕ) × (front : List ℕ) × (rest : List ℕ) × IsFramed d × (length (frame d) ≤ left_at before.offset) × (passed_of limit d ≡ front ++ rest)
     × (f ≡ record (passed (frame d) front) { write_failed = true })
 TurnGives limit before after (Stop (Refused r)) f t = RefusedGives r.reason r.at before.offset f t
+TurnGives limit before after (Stop NoMemory) f t = ⊥
 
 -- one frame, read and passed on
 pub record Turns (limit : ℕ) (before after : FramesState) (s t : Meaning) (result : Turn) (es : List Event) : Type 0 where

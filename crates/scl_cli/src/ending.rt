@@ -39,6 +39,8 @@ pub enum Ending {
     WriteFault,
     /// The input is refused.
     Refused(Refusal),
+    /// Memory was wanted, and there was none.
+    NoMemory,
 }
 
 /// The line for an input that is refused.
@@ -73,6 +75,10 @@ pub fn finish<D: Duct>(ending: Ending, out: &mut D) -> u8
         Ending::Refused(refusal) => {
             out.note(line_for(refusal).as_bytes());
             6
+        }
+        Ending::NoMemory => {
+            out.note(b"scl: memory\n");
+            7
         }
     }
 }

@@ -1,25 +1,14 @@
 //! The lines that show the values of a main header.
-ghost use Rattle.std.specs.Prelude.{◌≡◌, ◌≤◌, ◌+◌, ◌*◌, ◌++◌, length, decimal};
+ghost use Rattle.std.specs.Prelude.{◌≡◌, ◌≤◌, ◌+◌, ◌*◌, ◌++◌, length};
 ghost use Rattle.std.specs.List.{flat_map, range_with_len};
 ghost use Rattle.scl_cli.specs.HeadLines.{line, area_line, component_line, precinct_line, head_lines};
 
+use crate::texts::push_number;
 use arrayvec::ArrayString;
-use itoa::Buffer;
 use j2k_markers::Head;
 
 /// Lines of a main header: one of its area, four with two numbers at most each, four with three and sixteen with three.
 type Lines = ArrayString<2048>;
-
-/// Puts a text and a number behind the lines.
-fn push_number(lines: &mut Lines, before: &str, n: u32)
-    requires { length lines.old.bytes + length before.now + 20 ≤ 2048 }
-    ensures text { lines.new.bytes ≡ lines.old.bytes ++ before.now ++ decimal n }
-    ensures size { length lines.new.bytes ≤ length lines.old.bytes + length before.now + 20 }
-{
-    let mut digits = Buffer::new();
-    lines.push_str(before);
-    lines.push_str(digits.format(n));
-}
 
 /// Puts a line behind the lines: a word, and numbers with a blank before each.
 fn push_line(lines: &mut Lines, word: &str, numbers: &[u32])
@@ -29,7 +18,7 @@ fn push_line(lines: &mut Lines, word: &str, numbers: &[u32])
 {
     lines.push_str(word);
     for n in numbers {
-        push_number(lines, " ", *n);
+        push_number(lines, " ", u64::from(*n));
     }
     lines.push_str("\n");
 }
@@ -41,10 +30,10 @@ fn push_area(lines: &mut Lines, head: &Head)
     ensures size { length lines.new.bytes ≤ length lines.old.bytes + 110 }
 {
     let (x0, y0, x1, y1) = head.area();
-    push_number(lines, "AREA x0=", x0);
-    push_number(lines, " y0=", y0);
-    push_number(lines, " x1=", x1);
-    push_number(lines, " y1=", y1);
+    push_number(lines, "AREA x0=", u64::from(x0));
+    push_number(lines, " y0=", u64::from(y0));
+    push_number(lines, " x1=", u64::from(x1));
+    push_number(lines, " y1=", u64::from(y1));
     lines.push_str("\n");
 }
 

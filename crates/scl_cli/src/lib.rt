@@ -3,15 +3,18 @@
 
 mod command;
 mod ending;
+mod finding;
 mod head_lines;
-mod heading;
 mod machine;
+mod order_lines;
 mod reasons;
 mod running;
+mod showing;
+mod texts;
 mod thinning;
 mod words;
 
-pub use command::Command;
+pub use command::{Command, View};
 pub use ending::{Ending, Reason, Refusal};
 pub use machine::Machine;
 pub use running::run;

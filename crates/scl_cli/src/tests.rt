@@ -10,6 +10,7 @@ mod captures;
 mod headers;
 mod hostile;
 mod machines;
+mod orders;
 mod sure;
 
 const ROOM: usize = 10_000;
@@ -40,7 +41,7 @@ fn run_over(
 fn words_outside_the_grammar_are_named_and_nothing_else_is_done(
     rt: HostRuntime,
 ) -> Result<(), Fail> {
-    let cases: [&[&str]; 12] = [
+    let cases: [&[&str]; 14] = [
         &[],
         &["thin"],
         &["thin", "8"],
@@ -52,6 +53,8 @@ fn words_outside_the_grammar_are_named_and_nothing_else_is_done(
         &["Thin", "7"],
         &["thin 7"],
         &["head", "7"],
+        &["order", "x"],
+        &["Order"],
         &["--help"],
     ];
     for (row, texts) in cases.iter().enumerate() {

@@ -49,6 +49,7 @@ fn a_main_header_is_shown_in_lines(rt: HostRuntime) -> Result<(), Fail> {
     assert_eq!(rt; status, 0);
     assert_eq!(rt; duct.written(), lines.as_bytes());
     assert_eq!(rt; duct.noted(), [].as_slice());
+    assert!(rt; duct.told());
     Ok(())
 }
 
@@ -105,10 +106,13 @@ fn a_faulty_header_is_refused_at_its_place(rt: HostRuntime) -> Result<(), Fail> 
     ];
     for (row, (from, to, put, line)) in cases.iter().enumerate() {
         let input = changed(rt.alloc(), *from, *to, put, 0)?;
-        let (status, duct) = run_over(rt.alloc(), &["head"], &input, &[], &[])?;
-        assert_eq!(rt; status, 6, "in row {row}");
-        assert_eq!(rt; duct.written(), [].as_slice());
-        assert_eq!(rt; duct.noted(), line.as_bytes(), "in row {row}");
+        for word in ["head", "order"] {
+            let (status, duct) = run_over(rt.alloc(), &[word], &input, &[], &[])?;
+            assert_eq!(rt; status, 6, "in row {row}");
+            assert_eq!(rt; duct.written(), [].as_slice());
+            assert_eq!(rt; duct.noted(), line.as_bytes(), "in row {row}");
+            assert!(rt; duct.told());
+        }
     }
     Ok(())
 }
@@ -122,22 +126,28 @@ fn a_header_ends_within_8192_bytes(rt: HostRuntime) -> Result<(), Fail> {
     ];
     for (len, line) in cases {
         let input = changed(rt.alloc(), 75, 89, &[0xFF, 0x64, 0xFF, 0xFF], len - 79)?;
-        let (status, duct) = run_over(rt.alloc(), &["head"], &input, &[], &[])?;
-        assert_eq!(rt; status, 6, "of {len} bytes");
-        assert_eq!(rt; duct.noted(), line.as_bytes(), "of {len} bytes");
+        for word in ["head", "order"] {
+            let (status, duct) = run_over(rt.alloc(), &[word], &input, &[], &[])?;
+            assert_eq!(rt; status, 6, "of {len} bytes");
+            assert_eq!(rt; duct.noted(), line.as_bytes(), "of {len} bytes");
+            assert!(rt; duct.told());
+        }
     }
     Ok(())
 }
 
 #[test]
 fn a_header_meets_faults(rt: HostRuntime) -> Result<(), Fail> {
-    let (status, duct) = run_over(rt.alloc(), &["head"], HEADER, &[0], &[])?;
-    assert_eq!(rt; status, 3);
-    assert_eq!(rt; duct.written(), [].as_slice());
-    assert_eq!(rt; duct.noted(), b"scl: read fault\n".as_slice());
-    let (status, duct) = run_over(rt.alloc(), &["head"], HEADER, &[], &[0])?;
-    assert_eq!(rt; status, 4);
-    assert_eq!(rt; duct.written(), [].as_slice());
-    assert_eq!(rt; duct.noted(), b"scl: write fault\n".as_slice());
+    let cases: [(&[u64], &[u64], u8, &str); 2] = [
+        (&[0], &[], 3, "scl: read fault\n"),
+        (&[], &[0], 4, "scl: write fault\n"),
+    ];
+    for (bad_reads, bad_writes, wanted, line) in cases {
+        let (status, duct) = run_over(rt.alloc(), &["head"], HEADER, bad_reads, bad_writes)?;
+        assert_eq!(rt; status, wanted);
+        assert_eq!(rt; duct.written(), [].as_slice());
+        assert_eq!(rt; duct.noted(), line.as_bytes());
+        assert!(rt; duct.told());
+    }
     Ok(())
 }

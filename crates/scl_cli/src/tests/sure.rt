@@ -5,14 +5,15 @@ ghost use Rattle.scl_cli.specs.declared.command.Command.{Command};
 ghost use Rattle.scl_cli.specs.declared.ending.Refusal.{Refusal};
 ghost use Rattle.scl_cli.specs.Commands.{Spells};
 ghost use Rattle.scl_cli.specs.Made.{Accepts, Refuses};
+ghost use Rattle.scl_cli.specs.Runs.{IsDone};
 
 use super::*;
 
-/// No fault is answered, an accepted input gives 0 and a refused one 6.
+/// No fault is answered; an accepted input gives 0, or want of memory for the packet order, and a refused one 6.
 fn run_surely(alloc: Global, words: &Words, duct: &mut NeverFails) -> u8
-    ensures no_fault { (result ≡ 0) ⊎ ((result ≡ 2) ⊎ (result ≡ 6)) }
+    ensures no_fault { (result ≡ 0) ⊎ ((result ≡ 2) ⊎ ((result ≡ 6) ⊎ (result ≡ 7))) }
     ensures decided { (command : Command) (input : List ℕ) → Spells command words.now → (sure_meaning duct.old).left ≡ Some input
-        → (Accepts command input → result ≡ 0) × ((refusal : Refusal) → Refuses command input refusal → result ≡ 6) }
+        → (Accepts command input → IsDone command result) × ((refusal : Refusal) → Refuses command input refusal → result ≡ 6) }
 {
     run(alloc, words, duct)
 }

@@ -2,8 +2,8 @@ use Rattle.std.proofs.Common.{rules, suc, zero, ◌≡◌, ◌≤◌, ◌+◌, �
 use Rattle.std.specs.Prelude.{slice_get, codes, decimal}
 use Rattle.std.proofs.lemmas.Fmt.{decimal_digit}
 use Rattle.scl_cli.specs.declared.command.Command.{Command}
-use Rattle.scl_cli.specs.declared.command.Command.TheVariants.{Thin, Head}
-use Rattle.scl_cli.specs.Commands.{Spells}
+use Rattle.scl_cli.specs.declared.command.Command.TheVariants.{Thin, Show}
+use Rattle.scl_cli.specs.Commands.{Spells, view_word}
 use Rattle.scl_cli.proofs.command.command_to_thin.Goals as goal
 
 -- a list of two items, by its items
@@ -22,7 +22,7 @@ second words word limit at (small, is) =
 
 none : (words : List (List ℕ)) (word : List ℕ) (command : Command) (found : Option ℕ) → slice_get words 1 ≡ Some word → found ≡ None → ((limit : ℕ) → limit ≤ 7 → word ≡ (48 + limit) ∷ [] → found ≡ Some limit) → Spells command words → ⊥
 none words word (Thin limit) found at is all spells = let f : None ≡ Some limit = sym is ∙ all limit spells.0 (second words word limit at spells) in absurd (cc)
-none words word Head found at is all spells = let e : slice_get (codes "head" ∷ []) 1 ≡ Some word = rw spells at at in absurd (cc)
+none words word (Show view) found at is all spells = let e : slice_get (view_word view ∷ []) 1 ≡ Some word = rw spells at at in absurd (cc)
 
 same : (words : List (List ℕ)) (word : List ℕ) (command : Command) (limit : ℕ) → slice_get words 1 ≡ Some word → word ≡ (48 + limit) ∷ [] → Spells command words → Some (Thin limit) ≡ Some command
 same words word (Thin other) limit at is spells =
@@ -30,7 +30,7 @@ same words word (Thin other) limit at is spells =
     let g : 48 + other ≡ 48 + limit = cc in
     let h : limit ≡ other = omega arith in
     ap (λ (n : ℕ). Some (Thin n)) h
-same words word Head limit at is spells = let e : slice_get (codes "head" ∷ []) 1 ≡ Some word = rw spells at at in absurd (cc)
+same words word (Show view) limit at is spells = let e : slice_get (view_word view ∷ []) 1 ≡ Some word = rw spells at at in absurd (cc)
 
 pub returns-in_err-limit-clause-all : goal.returns-in_err-limit-clause-all
 returns-in_err-limit-clause-all c = λ command spells. absurd (none c.args.words.now _ command c.limit_of.result c.get-2.ensures c.in_err-limit.was c.limit_of.ensures.all spells)

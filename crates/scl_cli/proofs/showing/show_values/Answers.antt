@@ -1,7 +1,7 @@
 use Rattle.std.proofs.Common.{[], ◌∷◌, ◌∙◌}
 use Rattle.scl_outside.specs.Events.{Wrote, WriteFailed}
-use Rattle.scl_cli.proofs.Looking.{shows, shows_front}
-use Rattle.scl_cli.proofs.heading.show.Goals as goal
+use Rattle.scl_cli.proofs.Shown.{shows, shows_front}
+use Rattle.scl_cli.proofs.showing.show_values.Goals as goal
 
 pub returns-in-Done : goal.returns-in-Done
 returns-in-Done g c = (Wrote c.as_bytes.result.now ∷ [], shows c.args.head.now _ _ c.as_bytes.result.now (c.as_bytes.ensures.value ∙ (c.deref.ensures.0 ∙ c.lines_of.ensures)) c.in-Done.ensures.step)

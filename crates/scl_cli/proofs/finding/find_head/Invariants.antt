@@ -1,7 +1,7 @@
 use Rattle.std.proofs.Common.{◌-◌, List}
 use Rattle.scl_outside.specs.Events.{Event}
 use Rattle.scl_cli.proofs.Looking.{Looking}
-use Rattle.scl_cli.proofs.heading.head.Given as goal
+use Rattle.scl_cli.proofs.finding.find_head.Given as goal
 
 abbrev pub invariant-loop-head : goal.invariant-loop-head
 invariant-loop-head g l = (es : List Event) × Looking (g.D.Duct.meaning l.fn.out) (g.D.Duct.meaning l.out) l.len l.bytes es

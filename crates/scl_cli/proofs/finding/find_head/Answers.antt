@@ -2,14 +2,13 @@ use Rattle.std.proofs.Common.{rules, ◌≡◌, ◌-◌, ℕ, ◌++◌, [], ◌�
 use Rattle.scl_outside.specs.Events.{Took, Ended, ReadFailed}
 use borrow.Rule.Slice.PartMut.{put_mid}
 use Rattle.capture_frames.proofs.Buffers.{put_rest}
-use Rattle.scl_cli.proofs.Looking.{looked_more, refused_so, refused_short, read_failed, shown_whole}
-use Rattle.scl_cli.proofs.heading.head.Goals as goal
+use Rattle.scl_cli.proofs.Looking.{looked_more, found, refused_so, refused_short, read_failed}
+use Rattle.scl_cli.proofs.finding.find_head.Goals as goal
 
 pub returns-in-Ok : goal.returns-in-Ok
 returns-in-Ok g c =
     let so_far = c.loop-head.invariant in
-    let show = c.show.ensures in
-    (so_far.0 ++ show.0, shown_whole _ _ _ _ _ _ _ _ _ so_far.1 c.in-Ok.ensures.judged c.in-Ok.ensures.found show.1)
+    (so_far.0, found _ _ _ _ _ _ so_far.1 c.in-Ok.ensures.judged c.in-Ok.ensures.found)
 
 pub returns-then-ne : goal.returns-then-ne
 returns-then-ne g c =
