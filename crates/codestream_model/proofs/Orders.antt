@@ -174,7 +174,7 @@ has_sorted h (p ∷ ps) z apart (inl same) = rw (sorted_more h p ps) (let P : Pl
 has_sorted h (p ∷ ps) z apart (inr more) = rw (sorted_more h p ps) (placed_keeps h p (sorted h ps) z (has_sorted h ps z (λ a b am bm e. apart a b (inr am) (inr bm) e) more))
 
 -- the precincts, all of them and nothing else
-place_is : (h : Head) (c r : ℕ) (z : Place) → Has (places_of h c r) z → (z.c ≡ c) × (z.r ≡ r) × (z.k < precinct_count h c r)
+pub place_is : (h : Head) (c r : ℕ) (z : Place) → Has (places_of h c r) z → (z.c ≡ c) × (z.r ≡ r) × (z.k < precinct_count h c r)
 place_is h c r z m =
     let found = map_has (λ k. record { c = c; r = r; k = k }) (range_with_len 0 (precinct_count h c r)) z m in
     let inside = range_has 0 (precinct_count h c r) found.0 found.1 in
@@ -189,7 +189,7 @@ precinct_from h z c r cs rs number component resolution = record {
 }
 
 -- all that are listed are precincts,
-all_are_precincts : (h : Head) (z : Place) → Has (all_places h) z → IsPrecinct h z
+pub all_are_precincts : (h : Head) (z : Place) → Has (all_places h) z → IsPrecinct h z
 all_are_precincts h z m =
     let c = flat_map_has (λ c. flat_map (λ r. places_of h c r) (range_with_len 0 (h.levels + 1))) (range_with_len 0 (length h.steps)) z m in
     let r = flat_map_has (λ r. places_of h c.0 r) (range_with_len 0 (h.levels + 1)) z c.2 in
@@ -197,7 +197,7 @@ all_are_precincts h z m =
     precinct_from h z c.0 r.0 is.0 is.1 is.2 (range_has 0 (length h.steps) c.0 c.1).1 (range_has 0 (h.levels + 1) r.0 r.1).1
 
 -- and all precincts are listed
-precinct_is_there : (h : Head) (z : Place) → IsPrecinct h z → Has (all_places h) z
+pub precinct_is_there : (h : Head) (z : Place) → IsPrecinct h z → Has (all_places h) z
 precinct_is_there h z a =
     let c : z.c < length h.steps = a.component in
     let r : z.r ≤ h.levels = a.resolution in

@@ -17,7 +17,8 @@ use Rattle.codestream_model.proofs.Orders.{before_along}
 use Rattle.pcrl_order.specs.declared.anchored.Anchored.{Anchored}
 use Rattle.pcrl_order.specs.Anchors.{anchored_of, place_in, by_fields}
 use Rattle.pcrl_order.proofs.Apart.{AreApart, apart_in_each_order, apart_from_pairs}
-use Rattle.pcrl_order.proofs.Precincts.{all_are_precincts, precinct_is_there, Differ, all_differ}
+use Rattle.codestream_model.proofs.Orders.{all_are_precincts, precinct_is_there}
+use Rattle.pcrl_order.proofs.Precincts.{Differ, all_differ}
 
 -- what packets are ordered by
 abbrev pub numbers_of : Anchored → List ℕ

@@ -1,45 +1,11 @@
 -- The precincts of an image, listed by component, resolution and number.
-use Rattle.std.proofs.Common.{◌≡◌, ◌<◌, ◌≤◌, ◌+◌, ℕ, zero, suc, List, [], ◌∷◌, ◌++◌, map, length, refl, sym, ap, subst, inl, inr, arith}
+use Rattle.std.proofs.Common.{◌≡◌, ◌<◌, ◌+◌, ℕ, zero, suc, List, [], ◌∷◌, ◌++◌, map, length, refl, ap, subst, inl, inr, arith}
 use Rattle.std.specs.List.{AllByRecursion, flat_map, range_with_len}
 use Rattle.codestream_model.specs.Values.{Head, Place}
-use Rattle.codestream_model.specs.Precincts.{precinct_count, IsPrecinct}
+use Rattle.codestream_model.specs.Precincts.{precinct_count}
 use Rattle.codestream_model.specs.PacketOrder.{places_of, all_places}
-use Rattle.codestream_model.proofs.Members.{Has, has_map, map_has, has_flat_map, flat_map_has, has_range, range_has, each_member, Ascends}
-
--- the precincts of a component and a resolution
-place_is : (h : Head) (c r : ℕ) (z : Place) → Has (places_of h c r) z → (z.c ≡ c) × (z.r ≡ r) × (z.k < precinct_count h c r)
-place_is h c r z m =
-    let found = map_has (λ k. record { c = c; r = r; k = k }) (range_with_len 0 (precinct_count h c r)) z m in
-    let inside = range_has 0 (precinct_count h c r) found.0 found.1 in
-    (sym (ap (λ (p : Place). p.c) found.2), sym (ap (λ (p : Place). p.r) found.2), let e : found.0 ≡ z.k = ap (λ (p : Place). p.k) found.2 in omega (arith, inside.1))
-
--- a place with a component and a resolution is a precinct
-precinct_from : (h : Head) (z : Place) (c r : ℕ) → z.c ≡ c → z.r ≡ r → z.k < precinct_count h c r → c < 0 + length h.steps → r < 0 + (h.levels + 1) → IsPrecinct h z
-precinct_from h z c r cs rs number component resolution = record {
-  component = omega arith;
-  resolution = omega arith;
-  number = rw (cs, rs) number;
-}
-
--- all that are listed are precincts,
-pub all_are_precincts : (h : Head) (z : Place) → Has (all_places h) z → IsPrecinct h z
-all_are_precincts h z m =
-    let c = flat_map_has (λ c. flat_map (λ r. places_of h c r) (range_with_len 0 (h.levels + 1))) (range_with_len 0 (length h.steps)) z m in
-    let r = flat_map_has (λ r. places_of h c.0 r) (range_with_len 0 (h.levels + 1)) z c.2 in
-    let is = place_is h c.0 r.0 z r.2 in
-    precinct_from h z c.0 r.0 is.0 is.1 is.2 (range_has 0 (length h.steps) c.0 c.1).1 (range_has 0 (h.levels + 1) r.0 r.1).1
-
--- and all precincts are listed
-pub precinct_is_there : (h : Head) (z : Place) → IsPrecinct h z → Has (all_places h) z
-precinct_is_there h z a =
-    let c : z.c < length h.steps = a.component in
-    let r : z.r ≤ h.levels = a.resolution in
-    let k : z.k < precinct_count h z.c z.r = a.number in
-    has_flat_map (λ c. flat_map (λ r. places_of h c r) (range_with_len 0 (h.levels + 1))) (range_with_len 0 (length h.steps)) z.c z
-    (has_range 0 (length h.steps) z.c (omega arith) (omega arith))
-    (has_flat_map (λ r. places_of h z.c r) (range_with_len 0 (h.levels + 1)) z.r z
-    (has_range 0 (h.levels + 1) z.r (omega arith) (omega arith))
-    (has_map (λ k. record { c = z.c; r = z.r; k = k }) (range_with_len 0 (precinct_count h z.c z.r)) z.k (has_range 0 (precinct_count h z.c z.r) z.k (omega arith) (omega (arith, k)))))
+use Rattle.codestream_model.proofs.Orders.{place_is}
+use Rattle.codestream_model.proofs.Members.{Has, map_has, flat_map_has, range_has, each_member, Ascends}
 
 -- lists that ascend, one after the other
 ascends_append : {X : Type 0} (R : X → X → Type 0) (xs ys : List X) → Ascends R xs → Ascends R ys → ((x y : X) → Has xs x → Has ys y → R x y) → Ascends R (xs ++ ys)
