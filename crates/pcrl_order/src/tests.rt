@@ -1,7 +1,7 @@
 //! Packet orders that were worked out by hand.
 use super::*;
 use j2k_markers::read_head;
-use precinct_geometry::{Geometry, Place};
+use precinct_geometry::{Geometry, Grid, Place};
 use std::alloc::{AllocError, Global};
 use std::process::Abort;
 use std::test::Fail;
@@ -34,6 +34,11 @@ fn geometry_of(rt: &impl Abort, header: &[u8]) -> Geometry {
         panic!(rt; "the header is refused");
     };
     Geometry::new(head)
+}
+
+/// The grid of a band.
+fn grid(band: u8, cols: u32, rows: u32) -> Grid {
+    Grid { band, cols, rows }
 }
 
 /// A precinct: its number, its component, its resolution, its number there, and its anchor's y and x.
@@ -94,5 +99,17 @@ fn an_empty_resolution_has_no_precinct(rt: HostRuntime) -> Result<(), Fail> {
     let place = Place { c: 0, r: 1, k: 0 };
     assert!(rt; geometry.holds(place));
     assert_eq!(rt; geometry.blocks(place), 1);
+    let bands = [grid(1, 1, 1), grid(2, 0, 0), grid(3, 0, 0)];
+    assert_eq!(rt; geometry.bands(place).as_slice(), bands.as_slice());
+    Ok(())
+}
+
+#[test]
+fn the_parts_of_three_bands_are_code_blocks(rt: HostRuntime) -> Result<(), Fail> {
+    let geometry = geometry_of(&rt, &TWO_COMPONENTS);
+    let place = Place { c: 0, r: 1, k: 0 };
+    assert!(rt; geometry.holds(place));
+    let bands = [grid(1, 1, 1), grid(2, 1, 1), grid(3, 1, 1)];
+    assert_eq!(rt; geometry.bands(place).as_slice(), bands.as_slice());
     Ok(())
 }
