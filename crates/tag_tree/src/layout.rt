@@ -1,7 +1,7 @@
 //! Where the nodes of a tree stand in one flat list: level by level from the leaves up, and each level row by row.
-ghost use Rattle.std.specs.Prelude.{◌≡◌, ◌<◌, ◌≤◌, ◌+◌, ◌*◌};
+ghost use Rattle.std.specs.Prelude.{◌≡◌, ◌<◌, ◌≤◌, ◌+◌, ◌*◌, ℕ, slice_index};
 ghost use Rattle.codestream_model.specs.TagTrees.{exponent};
-ghost use Rattle.tag_tree.specs.Places.{width_of, base_of, place_of};
+ghost use Rattle.tag_tree.specs.Places.{width_of, base_of};
 ghost use Rattle.tag_tree.specs.Grove.{nodes_of};
 
 /// The number of nodes that a tree of so many leaves needs at most.
@@ -32,17 +32,19 @@ pub fn base(cols: u32, rows: u32, level: u32) -> usize
     base(cols, rows, below) + width(cols, below) as usize * width(rows, below) as usize
 }
 
-/// Where the node of a level on a leaf's path stands.
-pub fn place(cols: u32, rows: u32, level: u32, col: u32, row: u32) -> usize
-    requires low { level ≤ 16 }
-    requires small { cols * rows ≤ 65536 }
-    requires col_in { col < cols }
-    requires row_in { row < rows }
-    ensures { result ≡ place_of cols rows level col row }
+/// The most levels that a tree has: those of 65,536 leaves in a row.
+pub const LEVELS: usize = 17;
+
+/// The numbers of nodes of the levels below each level.
+pub fn bases(cols: u32, rows: u32) -> [usize; LEVELS]
+    requires { cols * rows ≤ 65536 }
+    ensures { (level : ℕ) → level < 17 → slice_index result level ≡ base_of cols rows level }
 {
-    base(cols, rows, level)
-        + (row >> level) as usize * width(cols, level) as usize
-        + (col >> level) as usize
+    let mut bases = [0; LEVELS];
+    for level in 0..LEVELS {
+        bases[level] = base(cols, rows, level as u32);
+    }
+    bases
 }
 
 /// The least exponent whose power of two isn't below a number.

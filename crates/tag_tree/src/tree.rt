@@ -5,7 +5,7 @@ ghost use Rattle.codestream_model.specs.PacketHeaderReading.{read_label, read_in
 ghost use Rattle.tag_tree.specs.Places.{place_of};
 ghost use Rattle.tag_tree.specs.LeafReading.{Knows, IsSameShape, Reads, ReadsLabel, told_at, met_at};
 
-use crate::layout::{exponent_of, most_nodes, place};
+use crate::layout::{LEVELS, bases, exponent_of, most_nodes, width};
 use std::alloc::{AllocError, Global};
 use std::marker::Model;
 use stuffed_bits::{BitIn, BitOut};
@@ -64,6 +64,8 @@ pub struct Tree {
     pub(crate) rows: u32,
     /// The root's level, where the leaves have level 0.
     pub(crate) root: u32,
+    /// The places of the first nodes of each level.
+    bases: [usize; LEVELS],
     /// The labels of the nodes; without a `fill`, 0 where a node wasn't met.
     pub(crate) labels: Vec<u8>,
     /// Whether a node was met.
@@ -71,7 +73,8 @@ pub struct Tree {
 }
 
 impl Model for Tree {
-    ghost use Rattle.std.specs.Prelude.{◌≡◌, ◌<◌, ◌≤◌, ◌*◌, length, max};
+    ghost use Rattle.std.specs.Prelude.{◌≡◌, ◌<◌, ◌≤◌, ◌*◌, ℕ, length, max, slice_index};
+    ghost use Rattle.tag_tree.specs.Places.{base_of};
     ghost use Rattle.codestream_model.specs.TagTrees.{exponent};
     ghost use Rattle.tag_tree.specs.Grove.{Grove, nodes_of};
 
@@ -79,7 +82,7 @@ impl Model for Tree {
 
     ghost view = { λ t. record { leaves = t.leaves; cols = t.cols; rows = t.rows; root = t.root; labels = t.labels.items; met = t.met.items } };
 
-    ghost invariant = { λ t. (t.leaves ≤ 65536) × (t.cols * t.rows ≤ t.leaves) × (length t.labels.items ≡ nodes_of t.leaves) × (length t.met.items ≡ nodes_of t.leaves) × (t.root ≤ 16) × (0 < t.cols → 0 < t.rows → t.root ≡ exponent (max t.cols t.rows)) };
+    ghost invariant = { λ t. (t.leaves ≤ 65536) × (t.cols * t.rows ≤ t.leaves) × (length t.labels.items ≡ nodes_of t.leaves) × (length t.met.items ≡ nodes_of t.leaves) × (t.root ≤ 16) × (0 < t.cols → 0 < t.rows → t.root ≡ exponent (max t.cols t.rows)) × ((level : ℕ) → level < 17 → slice_index t.bases level ≡ base_of t.cols t.rows level) };
 }
 
 impl Tree {
@@ -98,6 +101,7 @@ impl Tree {
             cols: 0,
             rows: 0,
             root: 0,
+            bases: bases(0, 0),
             labels: vec![in alloc; 0u8; nodes]?,
             met: vec![in alloc; false; nodes]?,
         })
@@ -118,6 +122,7 @@ impl Tree {
         } else {
             exponent_of(cols.max(rows))
         };
+        self.bases = bases(cols, rows);
         self.labels.fill(0);
         self.met.fill(false);
     }
@@ -131,7 +136,9 @@ impl Tree {
         ensures labelled { result < length self.now.labels }
         ensures listed { result < length self.now.met }
     {
-        place(self.cols, self.rows, level, col, row)
+        self.bases[level as usize]
+            + (row >> level) as usize * width(self.cols, level) as usize
+            + (col >> level) as usize
     }
 
     /// The label of a node, if it was met.
