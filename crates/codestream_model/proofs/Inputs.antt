@@ -15,7 +15,7 @@ use Rattle.codestream_model.proofs.OneWayLemmas.{same_front}
 use Rattle.codestream_model.proofs.CodestreamsJudged.{bytes_back, codestreams_judged, codestream_verdict, one_codestream}
 
 -- a codestream has bytes
-codestream_long : (codestream : List ℕ) → IsCodestream codestream → 2 ≤ length codestream
+pub codestream_long : (codestream : List ℕ) → IsCodestream codestream → 2 ≤ length codestream
 codestream_long codestream (h, content, s) = omega (arith, ap length s.whole, length-append s.head (s.packets ++ 255 ∷ 217 ∷ []), length-append s.packets (255 ∷ 217 ∷ []))
 
 -- codestreams joined
@@ -27,7 +27,7 @@ cons_both : (x y : List ℕ) (xs ys : List (List ℕ)) → x ≡ y → xs ≡ ys
 cons_both x y xs ys e f = cc
 
 -- of two lists of codestreams at the front of the same bytes one is the front of the other
-lists_agree : (xs ys : List (List ℕ)) (r s : List ℕ) → AllByRecursion IsCodestream xs → AllByRecursion IsCodestream ys → joined xs ++ r ≡ joined ys ++ s
+pub lists_agree : (xs ys : List (List ℕ)) (r s : List ℕ) → AllByRecursion IsCodestream xs → AllByRecursion IsCodestream ys → joined xs ++ r ≡ joined ys ++ s
     → (more : List (List ℕ)) × ((ys ≡ xs ++ more) ⊎ (xs ≡ ys ++ more))
 lists_agree [] ys r s a b e = (ys, inl refl)
 lists_agree (x ∷ xs) [] r s a b e = (x ∷ xs, inr refl)
