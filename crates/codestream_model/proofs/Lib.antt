@@ -55,3 +55,9 @@ pub mod BytesJudged
 pub mod BytesBack
 pub mod VerdictLemmas
 pub mod LimitLemmas
+pub mod OwnBands
+pub mod PacketVerdicts
+pub mod CodestreamVerdicts
+pub mod CodestreamsJudged
+pub mod Inputs
+pub mod WorkedFaults

@@ -21,13 +21,13 @@ use Rattle.codestream_model.proofs.Orders.{packet_order_is_computed}
 use Rattle.codestream_model.proofs.HeaderJudged.{headers_are_judged}
 
 -- a list that passes a test of bytes is one of bytes
-bytes_if_tested : (b : List ℕ) → list_all (λ x. nat_lt x 256) b ≡ true → IsBytes b
+pub bytes_if_tested : (b : List ℕ) → list_all (λ x. nat_lt x 256) b ≡ true → IsBytes b
 bytes_if_tested [] e i = omega arith
 bytes_if_tested (x ∷ b) e zero = ltb-true x 256 (and_parts (nat_lt x 256) (list_all (λ (y : ℕ). nat_lt y 256) b) e).0
 bytes_if_tested (x ∷ b) e (suc i) = bytes_if_tested b (and_parts (nat_lt x 256) (list_all (λ (y : ℕ). nat_lt y 256) b) e).1 i
 
 -- bytes that are read as a header are one
-spells_if_read : (b : List ℕ) (h : Head) → IsBytes b → head_of b ≡ Ok h → SpellsHead h (take h.length b)
+pub spells_if_read : (b : List ℕ) (h : Head) → IsBytes b → head_of b ≡ Ok h → SpellsHead h (take h.length b)
 spells_if_read b h fits e =
     let P : Result Head Refused → Type 0 = λ x. MatchResult x (λ g. SpellsHead g (take g.length b)) (λ r. RefusesHead b r.at r.why) in
     subst P e (headers_are_judged b fits)

@@ -20,3 +20,4 @@ pub mod PacketHeaderReading
 pub mod Packet
 pub mod Codestream
 pub mod PacketLaws
+pub mod CodestreamLaws

@@ -3,9 +3,14 @@
 //! `specs/` has the definitions and `proofs/` the laws about them. The functions here are laws: they compute nothing.
 #![tactic(auto)]
 
+mod codestream_laws;
 mod laws;
 mod packet_laws;
 
+pub use codestream_laws::{
+    codestreams_are_judged, codestreams_are_read_one_way, codestreams_have_one_verdict,
+    fault_is_one, input_is_not_refused, input_is_one, inputs_are_judged,
+};
 pub use laws::{
     each_component_has_precincts, great_pids_are_found, header_is_not_refused, header_is_one,
     header_is_read_one_way, header_is_within_limits, header_stands, headers_are_judged,

@@ -34,3 +34,7 @@ pub mod PacketsFound
 pub mod ParsedPackets
 pub mod ParsedInputs
 pub mod ReadPackets
+pub mod GrownPieces
+pub mod GrownBodies
+pub mod GrownDatagrams
+pub mod ClosedGrown

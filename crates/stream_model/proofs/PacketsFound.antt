@@ -1,41 +1,22 @@
 -- What `parse` finds where a packet should stand: a whole one exactly where the bytes begin with one.
-use Rattle.std.proofs.Common.{◌≡◌, ◌≤◌, ◌+◌, ◌-◌, ◌==◌, ℕ, Bool, true, false, List, [], ◌∷◌, ◌++◌, length, take, drop, nat_le, nat_lt, subst, refl, sym, ◌∙◌, ap, inl, inr, arith, append_assoc, if◌then◌else◌}
+use Rattle.std.proofs.Common.{◌≡◌, ◌≤◌, ◌+◌, ◌-◌, ℕ, Bool, true, false, List, [], ◌∷◌, ◌++◌, length, take, drop, nat_le, nat_lt, subst, refl, sym, ◌∙◌, ap, inl, inr, arith, append_assoc, if◌then◌else◌}
 use Rattle.std.proofs.lemmas.Bool.{cases_lt, le-leb, lt-leb}
 use Rattle.std.proofs.lemmas.List.{length-append, length-take, take_at, drop_at, take-append-drop}
 use Rattle.codestream_model.specs.Values.{Head, Place, Grid, Block}
 use Rattle.codestream_model.specs.Bytes.{IsBytes}
-use Rattle.codestream_model.specs.Precincts.{grid, grids, part_x, part_y}
+use Rattle.codestream_model.specs.Precincts.{grids}
 use Rattle.codestream_model.specs.PacketHeader.{HaveOwnBands}
 use Rattle.codestream_model.specs.PacketHeaderReading.{HeaderReading, Done, Need, Bad, header_of}
 use Rattle.codestream_model.specs.Packet.{Content, HasFewBlocks, block_count, segment_bytes, SpellsPacket, BeginsPacket, NeedsPacketBytes}
-use Rattle.codestream_model.proofs.TreeLemmas.{either}
 use Rattle.codestream_model.proofs.HeaderLemmas.{header_read}
 use Rattle.codestream_model.proofs.SoundLemmas.{header_sound}
+use Rattle.codestream_model.proofs.OwnBands.{own_bands}
 use Rattle.stream_model.specs.Decoder.{Found, Whole, Part, Other, found_segments, found_header, found_packet}
 use Rattle.codestream_model.proofs.BytesJudged.{refusal_read, needs_read}
 use Rattle.codestream_model.proofs.BytesBack.{refusal_sound, needs_sound}
 use Rattle.stream_model.specs.CommandLaws.{BeginsWithPacket}
 use Rattle.stream_model.specs.ReceiverLaws.{FoundIs, FoundIsWhatStands}
 use Rattle.stream_model.proofs.Found.{packet_has_bytes}
-
--- a grid is of its band
-grid_band : (h : Head) (p : Place) (band : ℕ) → (grid h p band).band ≡ band
-grid_band h p band = elim (either (nat_le (part_x h p band).to (part_x h p band).from)) [
-  | inl t ↦ rw t refl
-  | inr t ↦ elim (either (nat_le (part_y h p band).to (part_y h p band).from)) [
-    | inl u ↦ rw (t, u) refl
-    | inr u ↦ rw (t, u) refl
-  ]
-]
-
--- one grid, or three of different bands
-bands_differ : (b : Bool) (one x y z : Grid) → x.band ≡ 1 → y.band ≡ 2 → z.band ≡ 3 → HaveOwnBands (if b then one ∷ [] else x ∷ y ∷ z ∷ [])
-bands_differ true one x y z e f g = (tt, tt)
-bands_differ false one x y z e f g = ((λ t. omega arith, (λ t. omega arith, tt)), ((λ t. omega arith, tt), (tt, tt)))
-
--- the grids of a precinct are of different bands
-pub own_bands : (h : Head) (p : Place) → HaveOwnBands (grids h p)
-own_bands h p = bands_differ (p.r == 0) (grid h p 0) (grid h p 1) (grid h p 2) (grid h p 3) (grid_band h p 1) (grid_band h p 2) (grid_band h p 3)
 
 -- what is found in some bytes
 pub found_some : (h : Head) (p : Place) (bytes : List ℕ) → 1 ≤ length bytes → found_packet h p bytes ≡ (if nat_lt 65536 (block_count (grids h p)) then Other else found_header bytes (header_of (grids h p) bytes))

@@ -13,3 +13,4 @@ pub mod Queue
 pub mod Reading
 pub mod ReceiverLaws
 pub mod CommandLaws
+pub mod CutLaws
