@@ -1,12 +1,8 @@
 -- What is read in parts, one behind another.
-use Rattle.std.proofs.Common.{◌≡◌, ◌≤◌, ◌<◌, ◌+◌, ◌-◌, ◌*◌, ◌^◌, ℕ, zero, suc, Bool, true, false, List, [], ◌∷◌, length, drop, nat_le, nat_lt, Option, Result, Ok, Err, refl, sym, ◌∙◌, ap, subst, inl, inr, arith, if◌then◌else◌}
-use Rattle.std.proofs.lemmas.Bool.{le-leb, lt-leb}
-use Rattle.std.proofs.lemmas.Bool.Decides.{leb_tells}
-use Rattle.std.proofs.lemmas.Grind.{pow_more}
-use Rattle.codestream_model.specs.StuffedBits.{bit, number_of, packed_bits}
-use Rattle.codestream_model.specs.HeaderPieces.{HeaderRefusal, Passes, LengthBits}
-use Rattle.codestream_model.specs.PacketHeaderReading.{Read, Got, AtEnd, Refused, and_then, unless, read_bit, read_passes, read_lblock, read_number}
-use mir.Val.{bool_byte}
+use Rattle.std.proofs.Common.{◌≡◌, ◌+◌, ℕ, suc, Bool, true, false, List, [], ◌∷◌, nat_le, Result, Ok, Err, refl, sym, ◌∙◌, ap, subst, arith}
+use Rattle.codestream_model.specs.StuffedBits.{packed_bits}
+use Rattle.codestream_model.specs.HeaderPieces.{Passes, LengthBits}
+use Rattle.codestream_model.specs.PacketHeaderReading.{Read, Got, AtEnd, Refused, and_then, unless, read_bit, read_passes, read_lblock}
 use Rattle.packet_header.specs.Standing.{Stands, left}
 use Rattle.packet_header.specs.Answers.{why_of, stop_at}
 use Rattle.packet_header.specs.Reads.{GoesOn, Reads}
@@ -101,35 +97,6 @@ lblock_by_bits least [] = refl
 lblock_by_bits least (false ∷ l) = refl
 lblock_by_bits least (true ∷ l) = let e : suc least ≡ least + 1 = omega arith in ap (λ (n : ℕ). unless (nat_le 24 least) LengthBits (read_lblock n l)) e
 
--- a number, bit by bit, from the value of the bits before
-unfoldable pub number_from : ℕ → ℕ → List Bool → Read ℕ
-number_from zero v l = Got v l
-number_from (suc n) v l = and_then (read_bit l) (λ b more. number_from n (v * 2 + bit b) more)
-
-shifted : (n v b m : ℕ) → (v * 2 + b) * 2 ^ n + m ≡ v * 2 ^ suc n + (b * 2 ^ n + m)
-shifted n v b m = let p : 2 ^ suc n ≡ 2 * 2 ^ n = omega arith in rw p (grind arith)
-
-chosen_more : (t : Bool) (x y : ℕ) (l : List Bool) → x ≡ y → (if t then Got x l else AtEnd) ≡ (if t then Got y l else AtEnd)
-chosen_more t x y l e = ap (λ (n : ℕ). if t then Got n l else AtEnd) e
-
-number_from-is : (n v : ℕ) (l : List Bool) → number_from n v l ≡ (if nat_le n (length l) then Got (v * 2 ^ n + number_of n l) (drop n l) else AtEnd)
-unfolding number_from number_of
-number_from-is zero v l = let e : v ≡ v * 2 ^ 0 + 0 = omega arith in let t : nat_le 0 (length l) ≡ true = le-leb 0 (length l) (omega arith) in rw t (ap (λ (x : ℕ). Got x l) e)
-number_from-is (suc n) v [] = let t : nat_le (suc n) 0 ≡ false = lt-leb (suc n) 0 (omega arith) in rw t refl
-number_from-is (suc n) v (b ∷ l) =
-    let e : (v * 2 + bit b) * 2 ^ n + number_of n l ≡ v * 2 ^ suc n + (bit b * 2 ^ n + number_of n l) = shifted n v (bit b) (number_of n l) in
-    let same : nat_le (suc n) (length (b ∷ l)) ≡ nat_le n (length l) = elim (leb_tells n (length l)) [
-      | inl t ↦ le-leb (suc n) (length (b ∷ l)) (omega (arith, t.1)) ∙ sym t.0
-      | inr t ↦ lt-leb (suc n) (length (b ∷ l)) (omega (arith, t.1)) ∙ sym t.0
-    ] in
-    rw same (number_from-is n (v * 2 + bit b) l ∙ chosen_more (nat_le n (length l)) ((v * 2 + bit b) * 2 ^ n + number_of n l) (v * 2 ^ suc n + (bit b * 2 ^ n + number_of n l)) (drop n l) e)
-
-pub number_by_bits : (width : ℕ) (l : List Bool) → read_number width l ≡ number_from width 0 l
-unfolding read_number
-number_by_bits width l =
-    let e : number_of width l ≡ 0 * 2 ^ width + number_of width l = omega arith in
-    ap (λ (x : ℕ). if nat_le width (length l) then Got x (drop width l) else AtEnd) e ∙ sym (number_from-is width 0 l)
-
 -- a bit that was read is the first of those that were left
 pub record BitRead (old new : Source) (b : Bool) : Type 0 where
   pub more : left old ≡ b ∷ left new
@@ -143,26 +110,3 @@ bit_read old new b (x ∷ rest) got same a e =
       more = same ∙ (ap (λ (y : Bool). y ∷ rest) f ∙ ap (λ (m : List Bool). b ∷ m) (sym a.1.left));
       goes = record { stands = a.1.stands; bytes = a.1.bytes; left = refl };
     }
-
--- one bit of a number
-pub number_goes : (n v : ℕ) (l m : List Bool) (b : Bool) → l ≡ b ∷ m → number_from (suc n) v l ≡ number_from n (v * 2 + bit b) m
-unfolding number_from
-number_goes n v l m b e = rw e refl
-
-pub number_stops : (n v : ℕ) (l : List Bool) → number_from (suc n) v l ≡ and_then (read_bit l) (λ b more. number_from n (v * 2 + bit b) more)
-unfolding number_from
-number_stops n v l = refl
-
-pub number_done : (v : ℕ) (l : List Bool) → number_from 0 v l ≡ Got v l
-unfolding number_from
-number_done v l = refl
-
--- a number of so many bits is below their power
-pub number_grows : (i v : ℕ) (b : Bool) → v < 2 ^ i → v * 2 + bit b < 2 ^ (i + 1)
-number_grows i v true h = let p : 2 ^ (i + 1) ≡ 2 ^ i * 2 = pow_more 2 i in rw p (omega arith)
-number_grows i v false h = let p : 2 ^ (i + 1) ≡ 2 ^ i * 2 = pow_more 2 i in rw p (omega arith)
-
--- a bit as the number that a cast gives
-pub cast_bit : (b : Bool) → bool_byte b ≡ bit b
-cast_bit true = refl
-cast_bit false = refl

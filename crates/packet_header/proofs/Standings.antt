@@ -1,18 +1,22 @@
 -- A reader that has given further bits stands behind these.
-use Rattle.std.proofs.Common.{◌≡◌, ◌≤◌, ◌<◌, ◌+◌, ◌-◌, ◌⊎◌, ℕ, zero, suc, Bool, true, false, List, [], ◌∷◌, ◌++◌, length, take, drop, Option, Some, None, Ok, Err, refl, sym, ◌∙◌, ap, subst, inl, inr, arith, append_assoc}
+use Rattle.std.proofs.Common.{◌≡◌, ◌≤◌, ◌+◌, ◌-◌, ◌⊎◌, ℕ, zero, Bool, List, [], ◌∷◌, ◌++◌, length, take, drop, Option, Some, None, Err, refl, sym, ◌∙◌, ap, subst, inl, inr, arith}
 use Rattle.std.specs.List.{slice_range}
-use Rattle.std.proofs.lemmas.List.{append-nil, length-append, length-take, drop-drop, drop_at, take_at, take-append-drop}
+use Rattle.std.proofs.lemmas.Bool.Decides.{leb_tells}
+use Rattle.std.proofs.lemmas.List.{length-append, drop-drop, drop_at, take_at, take-append-drop}
 use Rattle.std.proofs.Math.Seq.{take-add}
-use Rattle.codestream_model.specs.StuffedBits.{number_bits, carried_after, carried, packed_bits}
-use Rattle.codestream_model.specs.PacketHeaderReading.{Read, Got, AtEnd, Refused, read_bit}
-use Rattle.codestream_model.proofs.BitLemmas.{number_bits-length}
+use Rattle.codestream_model.specs.StuffedBits.{number_bits, number_of, carried_after, packed_bits}
+use Rattle.codestream_model.specs.PacketHeaderReading.{read_bit, read_number}
+use Rattle.codestream_model.proofs.BitLemmas.{number_bits-length, bits_of_number, padded-take}
 use Rattle.stuffed_bits.specs.Stands.{before_next}
 use Rattle.stuffed_bits.specs.Hand.{Hand}
 use Rattle.stuffed_bits.specs.BitsRead.{HasRead, given, answer_by, answer_after}
 use Rattle.stuffed_bits.specs.declared.bit_in.BitOut.{BitOut}
-use Rattle.stuffed_bits.specs.declared.bit_in.BitOut.TheVariants.{Bit, Need, Stuffed}
+use Rattle.stuffed_bits.specs.declared.bit_in.BitOut.TheVariants.{Bit}
+use Rattle.stuffed_bits.specs.NumbersRead.{short_by, number_by, number_after}
+use Rattle.stuffed_bits.specs.declared.numbers.NumberOut.{NumberOut}
+use Rattle.stuffed_bits.specs.declared.numbers.NumberOut.TheVariants.{Number}
 use Rattle.packet_header.specs.Standing.{Stands, left, given_of, given_by, StandsIn}
-use Rattle.packet_header.specs.Answers.{bit_answer, stop_at}
+use Rattle.packet_header.specs.Answers.{bit_answer, number_answer, stop_at}
 use Rattle.packet_header.specs.Reads.{GoesOn, Reads}
 use Rattle.packet_header.specs.declared.source.Source.{Source}
 
@@ -98,6 +102,48 @@ bit_step old new out s onward within same exact stands =
           let behind = stands_behind bytes old.at new.at old.bits new.bits (t.0 ∷ []) t.1 s onward within t.3 (subst P t.2 now) in
           rw (t.3, t.2) (refl, goes_on old new t.1 same behind)
       | inr t ↦ rw t.0 t.1
+    ]
+
+-- the answer to a number, where the reader stands
+number_there : (width : ℕ) (bytes : List ℕ) (at : ℕ) (h : Hand) (out : NumberOut) → StandsIn bytes at h
+    → ((bits : List Bool) (taken : List ℕ) → HasRead bits taken h → out ≡ number_after width bits (packed_bits (taken ++ drop at bytes)))
+    → out ≡ number_by width (drop (given_of bytes at h.left) (packed_bits bytes).bits) (packed_bits bytes).broken_at
+number_there width bytes at h out s exact =
+    let bits = take (given_of bytes at h.left) (packed_bits bytes).bits in
+    let whole : take at bytes ++ drop at bytes ≡ bytes = take-append-drop at bytes in
+    let e = exact bits (take at bytes) s.read in
+    e ∙ (ap (λ (l : List ℕ). number_after width bits (packed_bits l)) whole ∙ ap (λ (n : ℕ). number_by width (drop n (packed_bits bytes).bits) (packed_bits bytes).broken_at) (given_length bytes at h s))
+
+-- the bits of the number that bits spell are the first of these
+spelled_bits : (width : ℕ) (l : List Bool) → width ≤ length l → number_bits width (number_of width l) ≡ take width l
+spelled_bits width l h = bits_of_number width l ∙ padded-take width l h
+
+-- what stops a reader of a number stops one of bits
+same_stop_at : (o : Option ℕ) → number_answer (short_by o) ≡ Err (stop_at o)
+same_stop_at None = refl
+same_stop_at (Some place) = refl
+
+-- a number was read, or too few bits were left
+pub number_step : (width : ℕ) (old new : Source) (out : NumberOut) → Stands old → old.at ≤ new.at → new.at ≤ length old.piece.now → new.piece.now ≡ old.piece.now
+    → ((bits : List Bool) (taken : List ℕ) → HasRead bits taken old.bits → out ≡ number_after width bits (packed_bits (taken ++ drop old.at old.piece.now)))
+    → ((n : ℕ) → out ≡ Number n → (bits : List Bool) (taken : List ℕ) → HasRead bits taken old.bits → HasRead (bits ++ number_bits width n) (taken ++ slice_range old.piece.now old.at new.at) new.bits)
+    → Reads (read_number width (left old)) old new (number_answer out)
+unfolding read_number
+number_step width old new out s onward within same exact stands =
+    let bytes = old.piece.now in
+    let run = packed_bits bytes in
+    let l = left old in
+    let there : out ≡ number_by width l run.broken_at = number_there width bytes old.at old.bits out s exact in
+    elim (leb_tells width (length l)) [
+      | inl t ↦
+          let e : out ≡ Number (number_of width l) = there ∙ rw t.0 refl in
+          let now = stands (number_of width l) e (take (given_by old) run.bits) (take old.at bytes) s.read in
+          let P : List Bool → Type 0 = λ m. HasRead (take (given_by old) run.bits ++ m) (take old.at bytes ++ slice_range bytes old.at new.at) new.bits in
+          let behind = stands_behind bytes old.at new.at old.bits new.bits (take width l) (drop width l) s onward within (sym (take-append-drop width l)) (subst P (spelled_bits width l t.1) now) in
+          rw (t.0, e) (refl, goes_on old new (drop width l) same behind)
+      | inr t ↦
+          let e : out ≡ short_by run.broken_at = there ∙ rw t.0 refl in
+          rw (t.0, e) (same_stop_at run.broken_at)
     ]
 
 -- before the first bit

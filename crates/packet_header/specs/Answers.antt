@@ -5,6 +5,8 @@ use Rattle.codestream_model.specs.HeaderPieces.{HeaderRefusal, Stuffed, ZeroPlan
 use Rattle.codestream_model.specs.PacketHeaderReading.{HeaderReading, Done, Need, Bad}
 use Rattle.stuffed_bits.specs.declared.bit_in.BitOut.{BitOut}
 use Rattle.stuffed_bits.specs.declared.bit_in.BitOut.TheVariants as bits
+use Rattle.stuffed_bits.specs.declared.numbers.NumberOut.{NumberOut}
+use Rattle.stuffed_bits.specs.declared.numbers.NumberOut.TheVariants as number
 use Rattle.tag_tree.specs.declared.tree.TreeOut.{TreeOut}
 use Rattle.tag_tree.specs.declared.tree.TreeOut.TheVariants as tree
 use Rattle.packet_header.specs.declared.block.Block.{Block}
@@ -45,6 +47,12 @@ abbrev pub bit_answer : BitOut → Result Bool Stop
 bit_answer (bits.Bit b) = Ok b
 bit_answer bits.Need = Err stop.Need
 bit_answer bits.Stuffed = Err (stop.Bad why.Stuffed)
+
+-- what is read of a number
+abbrev pub number_answer : NumberOut → Result ℕ Stop
+number_answer (number.Number n) = Ok n
+number_answer number.Need = Err stop.Need
+number_answer number.Stuffed = Err (stop.Bad why.Stuffed)
 
 -- and of a leaf's label
 abbrev pub leaf_answer : TreeOut → Result ℕ Stop

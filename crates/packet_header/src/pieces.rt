@@ -1,8 +1,8 @@
 //! The values of an included code-block (T.800 B.10.6 and B.10.7, with the segments of T.814).
-ghost use Rattle.std.specs.Prelude.{◌≡◌, ◌≤◌, ◌<◌, ◌^◌, IfOk};
+ghost use Rattle.std.specs.Prelude.{◌≡◌, ◌≤◌, IfOk};
 ghost use Rattle.codestream_model.specs.TagTrees.{Seat};
 ghost use Rattle.codestream_model.specs.HeaderPieces.{refine_width};
-ghost use Rattle.codestream_model.specs.PacketHeaderReading.{read_passes, read_lblock, read_number, read_cleanup, read_refine, read_block};
+ghost use Rattle.codestream_model.specs.PacketHeaderReading.{read_passes, read_lblock, read_cleanup, read_refine, read_block};
 ghost use Rattle.packet_header.specs.Standing.{Stands, left};
 ghost use Rattle.packet_header.specs.Reads.{Reads};
 ghost use Rattle.packet_header.specs.Answers.{block_answer};
@@ -63,27 +63,13 @@ pub fn lblock_from(least: u8, source: &mut Source<'_>) -> Result<u8, Stop>
     lblock_from(least + 1, source)
 }
 
-/// Reads a number of so many bits.
-pub fn number(width: u8, source: &mut Source<'_>) -> Result<u32, Stop>
-    requires stands { Stands source.old }
-    requires low { width ≤ 25 }
-    ensures read { Reads (read_number width (left source.old)) source.old source.new result }
-    ensures small { IfOk result (λ n. n < 2 ^ 25) }
-{
-    let mut value = 0;
-    for _ in 0..width {
-        value = value * 2 + u32::from(source.bit()?);
-    }
-    Ok(value)
-}
-
 /// Reads the length of a cleanup segment, 2 to 65,534, in so many bits.
 pub fn cleanup(lblock: u8, source: &mut Source<'_>) -> Result<u32, Stop>
     requires stands { Stands source.old }
     requires low { lblock ≤ 24 }
     ensures read { Reads (read_cleanup lblock (left source.old)) source.old source.new result }
 {
-    let length = number(lblock, source)?;
+    let length = source.number(lblock)?;
     if length < LEAST_CLEANUP {
         return Err(Stop::Bad(HeaderWhy::CleanupShort));
     }
@@ -111,7 +97,7 @@ pub fn refine(passes: u8, lblock: u8, source: &mut Source<'_>) -> Result<u32, St
     if passes <= 1 {
         return Ok(0);
     }
-    let length = number(refine_bits(passes, lblock), source)?;
+    let length = source.number(refine_bits(passes, lblock))?;
     if length >= REFINE_END {
         return Err(Stop::Bad(HeaderWhy::RefineLong));
     }

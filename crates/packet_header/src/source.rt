@@ -1,16 +1,16 @@
 //! The bits of a packet header, read one after another of the bytes at hand.
 ghost use Rattle.std.specs.Prelude.{◌≡◌, ◌≤◌, ◌<◌, ◌-◌, ℕ, zero, length};
 ghost use Rattle.codestream_model.specs.StuffedBits.{packed_bits};
-ghost use Rattle.codestream_model.specs.PacketHeaderReading.{read_bit, read_inclusion, read_planes};
+ghost use Rattle.codestream_model.specs.PacketHeaderReading.{read_bit, read_number, read_inclusion, read_planes};
 ghost use Rattle.tag_tree.specs.LeafReading.{IsSameShape};
 ghost use Rattle.packet_header.specs.Standing.{Stands, given_by, left};
-ghost use Rattle.packet_header.specs.Answers.{bit_answer, leaf_answer};
+ghost use Rattle.packet_header.specs.Answers.{bit_answer, number_answer, leaf_answer};
 ghost use Rattle.packet_header.specs.Reads.{Reads};
 ghost use Rattle.packet_header.specs.Trees.{ReadsLeafBy};
 ghost use Rattle.packet_header.specs.Closing.{closes};
 
 use crate::refusal::{HeaderWhy, Stop};
-use stuffed_bits::{BitIn, BitOut};
+use stuffed_bits::{BitIn, BitOut, NumberOut};
 use tag_tree::{Tree, TreeOut};
 
 /// A reader of the bits of bytes.
@@ -43,6 +43,15 @@ impl<'a> Source<'a> {
         ensures { Reads (read_bit (left self.old)) self.old self.new result }
     {
         bit_of(self.bits.bit(self.piece, &mut self.at))
+    }
+
+    /// Reads a number of so many bits, the greatest first.
+    pub fn number(&mut self, width: u8) -> Result<u32, Stop>
+        requires stands { Stands self.old }
+        requires low { width ≤ 25 }
+        ensures { Reads (read_number width (left self.old)) self.old self.new result }
+    {
+        number_of(self.bits.number(width, self.piece, &mut self.at))
     }
 
     /// Reads a leaf of an inclusion tree: 0 where it is included, else 1.
@@ -87,6 +96,17 @@ fn bit_of(out: BitOut) -> Result<bool, Stop>
         BitOut::Bit(bit) => Ok(bit),
         BitOut::Need => Err(Stop::Need),
         BitOut::Stuffed => Err(Stop::Bad(HeaderWhy::Stuffed)),
+    }
+}
+
+/// The number that was read, or what stopped it.
+fn number_of(out: NumberOut) -> Result<u32, Stop>
+    ensures { result ≡ number_answer out }
+{
+    match out {
+        NumberOut::Number(number) => Ok(number),
+        NumberOut::Need => Err(Stop::Need),
+        NumberOut::Stuffed => Err(Stop::Bad(HeaderWhy::Stuffed)),
     }
 }
 

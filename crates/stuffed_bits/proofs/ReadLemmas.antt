@@ -78,19 +78,25 @@ sound_of_all bits bytes more h r =
     let same : before_next h.last ≡ last_from 0 bytes = ap before_next r.last ∙ before_last bytes in
     rw same (sound_of_front 0 bytes more (λ e. absurd (omega arith)) r.stands.stuffed)
 
+-- the bits that bytes carry are those that were given, those in hand, and those of the bytes that follow
+pub bits_of_all : (bits : List Bool) (bytes more : List ℕ) (h : Hand) → HasRead bits bytes h
+    → (packed_bits (bytes ++ more)).bits ≡ bits ++ (number_bits h.left (before_next h.last) ++ carried_after (before_next h.last) (sound_after (before_next h.last) more))
+bits_of_all bits bytes more h r =
+    let last = before_next h.last in
+    let same : last_after 0 bytes ≡ last = same_last 0 bytes ∙ sym (ap before_next r.last ∙ before_last bytes) in
+    let behind = carried_after last (sound_after last more) in
+    ap carried (sound_of_all bits bytes more h r)
+    ∙ (carried-append 0 bytes (sound_after last more)
+    ∙ (ap (λ (k : ℕ). carried bytes ++ carried_after k (sound_after last more)) same
+    ∙ (ap (λ (l : List Bool). l ++ behind) r.stands.filled ∙ append_assoc bits (number_bits h.left last) behind)))
+
 -- the bits that follow those that were given
 pub bits_behind : (bits : List Bool) (bytes more : List ℕ) (h : Hand) → HasRead bits bytes h
     → drop (length bits) (packed_bits (bytes ++ more)).bits ≡ number_bits h.left (before_next h.last) ++ carried_after (before_next h.last) (sound_after (before_next h.last) more)
 bits_behind bits bytes more h r =
     let last = before_next h.last in
-    let same : last_after 0 bytes ≡ last = same_last 0 bytes ∙ sym (ap before_next r.last ∙ before_last bytes) in
-    let behind = carried_after last (sound_after last more) in
-    let whole : carried (sound_after 0 (bytes ++ more)) ≡ bits ++ (number_bits h.left last ++ behind) =
-    ap carried (sound_of_all bits bytes more h r)
-    ∙ (carried-append 0 bytes (sound_after last more)
-    ∙ (ap (λ (k : ℕ). carried bytes ++ carried_after k (sound_after last more)) same
-    ∙ (ap (λ (l : List Bool). l ++ behind) r.stands.filled ∙ append_assoc bits (number_bits h.left last) behind))) in
-    ap (drop (length bits)) whole ∙ drop_at bits (number_bits h.left last ++ behind) (length bits) refl
+    let behind = number_bits h.left last ++ carried_after last (sound_after last more) in
+    ap (drop (length bits)) (bits_of_all bits bytes more h r) ∙ drop_at bits behind (length bits) refl
 
 -- the answer where a bit is in hand
 pub answer_in_hand : (bits : List Bool) (bytes more : List ℕ) (h : Hand) → 0 < h.left → HasRead bits bytes h → Bit (first_of_hand h) ≡ answer_after bits (packed_bits (bytes ++ more))

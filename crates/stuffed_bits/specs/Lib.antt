@@ -2,4 +2,5 @@ pub mod Stands
 pub mod Hand
 pub mod Pen
 pub mod BitsRead
+pub mod NumbersRead
 pub mod BitsWritten

@@ -1,4 +1,4 @@
-//! The reader: bits one at a time, from bytes that come in pieces.
+//! The reader, bit by bit, of bytes that come in pieces; `numbers` has its numbers of several bits.
 ghost use Rattle.std.specs.Prelude.{◌≡◌, ◌≢◌, ◌<◌, ◌≤◌, ◌+◌, ◌-◌, ◌++◌, ℕ, List, [], Bool, false, length, take, drop, IsSome};
 ghost use Rattle.std.specs.List.{slice_range};
 ghost use Rattle.codestream_model.specs.StuffedBits.{Packs, packed_bits, closing_after};
@@ -21,19 +21,19 @@ pub enum BitOut {
 }
 
 /// A byte that is wanted.
-enum Next {
+pub(crate) enum Next {
     Byte(u8),
     Need,
     Stuffed,
 }
 
-/// Reads the bits that bytes carry, one at a time.
+/// Reads the bits that bytes carry.
 #[derive(Drop)]
 pub struct BitIn {
     /// The last byte that was taken.
-    last: Option<u8>,
+    pub(crate) last: Option<u8>,
     /// How many of its bits, the lowest ones, weren't given yet.
-    left: u8,
+    pub(crate) left: u8,
 }
 
 impl Model for BitIn {
@@ -48,7 +48,7 @@ impl Model for BitIn {
 }
 
 /// The byte at a place of a piece, if it may follow this one.
-fn next_byte(before: u8, piece: &[u8], at: usize) -> Next
+pub(crate) fn next_byte(before: u8, piece: &[u8], at: usize) -> Next
     requires { at ≤ length piece.now }
     ensures { result ≡ next_of before (drop at piece.now) }
 {
@@ -75,7 +75,7 @@ impl BitIn {
     }
 
     /// The byte before the next one, or 0 before the first.
-    fn before(&self) -> u8
+    pub(crate) fn before(&self) -> u8
         ensures { result ≡ before_next self.now.last }
     {
         match self.last {

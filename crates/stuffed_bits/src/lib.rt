@@ -1,4 +1,5 @@
-//! Bits in bytes with bit stuffing, as packet headers have them (T.800 B.10.1): a reader and a writer of one bit at a time.
+//! Bits in bytes with bit stuffing, as packet headers have them (T.800 B.10.1): a reader of a bit or a number at a time, and a
+//! writer of a bit at a time.
 //!
 //! The bits fill bytes from the top. After a byte FF the next byte's top bit is 0 and carries nothing; a last byte FF is
 //! followed by one more such byte. Neither direction takes memory, and neither keeps the bytes: each call is passed them.
@@ -6,10 +7,12 @@
 
 mod bit_in;
 mod bit_writer;
+mod numbers;
 mod width;
 
 pub use bit_in::{BitIn, BitOut};
 pub use bit_writer::{BitWriter, Full};
+pub use numbers::NumberOut;
 
 #[cfg(test)]
 mod tests;

@@ -68,6 +68,78 @@ fn a_stuffed_byte_gives_no_bit(rt: HostRuntime) {
     assert_eq!(rt; further, 0);
 }
 
+#[test]
+fn numbers_are_read_across_bytes(rt: HostRuntime) {
+    let bytes = [0xFF, 0x55, 0xC8];
+    let mut reader = BitIn::new();
+    let mut at = 0;
+    assert_eq!(rt; reader.number(0, &bytes, &mut at), NumberOut::Number(0));
+    assert_eq!(rt; at, 0);
+    assert_eq!(rt; reader.number(3, &bytes, &mut at), NumberOut::Number(0b111));
+    assert_eq!(rt; at, 1);
+    assert_eq!(rt;
+        reader.number(12, &bytes, &mut at),
+        NumberOut::Number(0b1111_1101_0101)
+    );
+    assert_eq!(rt; reader.bit(&bytes, &mut at), BitOut::Bit(true));
+    assert_eq!(rt; reader.number(7, &bytes, &mut at), NumberOut::Number(0x48));
+    assert_eq!(rt; at, 3);
+    assert_eq!(rt; reader.number(0, &bytes, &mut at), NumberOut::Number(0));
+    assert_eq!(rt; reader.number(1, &bytes, &mut at), NumberOut::Need);
+}
+
+#[test]
+fn the_longest_number_reaches_into_five_bytes(rt: HostRuntime) {
+    let bytes = [0x01, 0x23, 0xFF, 0x7F, 0x80];
+    let mut reader = BitIn::new();
+    let mut at = 0;
+    assert_eq!(rt; reader.number(7, &bytes, &mut at), NumberOut::Number(0));
+    assert_eq!(rt;
+        reader.number(25, &bytes, &mut at),
+        NumberOut::Number(0x123_FFFF)
+    );
+    assert_eq!(rt; at, 5);
+    let mut other = BitIn::new();
+    let mut start = 0;
+    assert_eq!(rt;
+        other.number(25, &bytes, &mut start),
+        NumberOut::Number(0x2_47FF)
+    );
+    assert_eq!(rt; start, 4);
+}
+
+#[test]
+fn a_number_that_is_cut_or_broken_is_not_read(rt: HostRuntime) {
+    let mut at = 0;
+    assert_eq!(rt;
+        BitIn::new().number(15, &[0xFF, 0x7F], &mut at),
+        NumberOut::Number(0x7FFF)
+    );
+    let mut cut = 0;
+    assert_eq!(rt;
+        BitIn::new().number(16, &[0xFF, 0x7F], &mut cut),
+        NumberOut::Need
+    );
+    let mut broken = 0;
+    assert_eq!(rt;
+        BitIn::new().number(9, &[0xFF, 0x80], &mut broken),
+        NumberOut::Stuffed
+    );
+}
+
+#[test]
+fn a_number_goes_on_in_a_further_piece(rt: HostRuntime) {
+    let mut reader = BitIn::new();
+    let mut at = 0;
+    assert_eq!(rt; reader.number(8, &[0xFF], &mut at), NumberOut::Number(0xFF));
+    let mut further = 0;
+    assert_eq!(rt;
+        reader.number(7, &[0x55], &mut further),
+        NumberOut::Number(0x55)
+    );
+    assert_eq!(rt; further, 1);
+}
+
 /// Writes bits and closes them.
 fn write(bits: &[u8], buf: &mut [u8]) -> Result<usize, Full> {
     let mut writer = BitWriter::new();

@@ -1,10 +1,8 @@
 -- Answers, one behind another: what is read down a path is read node by node.
-use Rattle.std.proofs.Common.{◌≡◌, ◌≢◌, ◌<◌, ◌≤◌, ◌⊎◌, ◌+◌, ◌-◌, ◌==◌, ℕ, zero, suc, Bool, true, false, List, [], ◌∷◌, ◌++◌, length, take, drop, nat_le, Option, Some, None, refl, sym, ◌∙◌, ap, subst, inl, inr, arith, append_assoc, if◌then◌else◌}
+use Rattle.std.proofs.Common.{◌≡◌, ◌≢◌, ◌<◌, ◌≤◌, ◌⊎◌, ◌+◌, ◌-◌, ◌==◌, ℕ, zero, suc, Bool, true, false, List, [], ◌∷◌, ◌++◌, length, drop, nat_le, Option, Some, None, refl, sym, ◌∙◌, ap, subst, inl, inr, arith, append_assoc, if◌then◌else◌}
 use Rattle.std.specs.List.{slice_range}
 use Rattle.std.proofs.lemmas.Bool.Decides.{eqb_tells}
 use Rattle.std.proofs.lemmas.List.{append-nil, length-append, drop_at, drop-drop}
-use Rattle.std.proofs.lemmas.List.Folds.{drop_split}
-use Rattle.std.proofs.Math.Seq.{take-add}
 use Rattle.codestream_model.specs.StuffedBits.{packed_bits}
 use Rattle.codestream_model.specs.TagTrees.{Seat, levels_from}
 use Rattle.codestream_model.specs.PacketHeaderReading.{Node, Walked, Read, Got, AtEnd, Refused, and_then, read_bit, node_of, known_label, unless, read_label, read_inclusion, read_planes}
@@ -172,19 +170,7 @@ inclusion_met level above b s nodes done rest all taken t h e z some k r =
     when_met level [] s above nodes (behind done all) e test ∙ (ap (λ (l : List Bool). and_then (read_bit l) read) some ∙ at_leaf s label (node_of level s label ∷ nodes) rest) in
     subst P (sym end) (refl, k, (b ∷ [], some, r))
 
--- the bytes of a piece up to a place and up to a further one, and all of them
-pub ranges_join : (bytes piece : List ℕ) (at mid end : ℕ) → at ≤ mid → mid ≤ end → (bytes ++ slice_range piece at mid) ++ slice_range piece mid end ≡ bytes ++ slice_range piece at end
-ranges_join bytes piece at mid end h t =
-    let i : at + (mid - at) ≡ mid = omega arith in
-    let j : mid - at + (end - mid) ≡ end - at = omega arith in
-    let d : drop (mid - at) (drop at piece) ≡ drop mid piece = drop-drop (mid - at) at piece ∙ ap (λ (n : ℕ). drop n piece) i in
-    let e : take (end - at) (drop at piece) ≡ take (mid - at) (drop at piece) ++ take (end - mid) (drop mid piece) =
-    ap (λ (n : ℕ). take n (drop at piece)) (sym j) ∙ (take-add (mid - at) (end - mid) (drop at piece) ∙ ap (λ (l : List ℕ). take (mid - at) (drop at piece) ++ take (end - mid) l) d) in
-    append_assoc bytes (slice_range piece at mid) (slice_range piece mid end) ∙ ap (λ (l : List ℕ). bytes ++ l) (sym e)
-
-pub range_and_rest : (bytes piece : List ℕ) (at mid : ℕ) → at ≤ mid → (bytes ++ slice_range piece at mid) ++ drop mid piece ≡ bytes ++ drop at piece
-range_and_rest bytes piece at mid h = append_assoc bytes (slice_range piece at mid) (drop mid piece) ∙ ap (λ (l : List ℕ). bytes ++ l) (sym (drop_split piece at mid h))
-
+-- no bytes of a piece
 pub no_range : (bytes piece : List ℕ) (at : ℕ) → bytes ≡ bytes ++ slice_range piece at at
 no_range bytes piece at = sym (append-nil bytes) ∙ ap (λ (l : List ℕ). bytes ++ l) (sym (range_none piece at))
 

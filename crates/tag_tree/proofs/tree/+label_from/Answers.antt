@@ -5,7 +5,8 @@ use Rattle.codestream_model.specs.StuffedBits.{packed_bits}
 use Rattle.codestream_model.specs.PacketHeaderReading.{read_label}
 use Rattle.stuffed_bits.specs.BitsRead.{HasRead}
 use Rattle.tag_tree.specs.LeafReading.{behind, IsLabel}
-use Rattle.tag_tree.proofs.AnswerLemmas.{label_at_end, label_found, label_too_great, label_goes_on, none_for_need, none_for_broken, one_for_bit, ranges_join, range_and_rest}
+use Rattle.stuffed_bits.proofs.RangeLemmas.{ranges_join, range_and_rest}
+use Rattle.tag_tree.proofs.AnswerLemmas.{label_at_end, label_found, label_too_great, label_goes_on, none_for_need, none_for_broken, one_for_bit}
 use Rattle.tag_tree.proofs.tree.+label_from.Goals as goal
 
 pub returns-in-Need-clause-read : goal.returns-in-Need-clause-read

@@ -4,7 +4,8 @@ use Rattle.std.specs.List.{slice_range}
 use Rattle.codestream_model.specs.TagTrees.{Seat, levels_from}
 use Rattle.codestream_model.specs.PacketHeaderReading.{Walked, Read, and_then, read_inclusion}
 use Rattle.tag_tree.specs.LeafReading.{behind, IsAnswer}
-use Rattle.tag_tree.proofs.AnswerLemmas.{answered_on, answered_last, inclusion_by_node, ranges_join, range_and_rest, leaf_levels, lower_levels}
+use Rattle.stuffed_bits.proofs.RangeLemmas.{ranges_join, range_and_rest}
+use Rattle.tag_tree.proofs.AnswerLemmas.{answered_on, answered_last, inclusion_by_node, leaf_levels, lower_levels}
 use Rattle.tag_tree.proofs.tree.Tree.+path_inclusion.Goals as goal
 
 pub returns-then-level-eq0-clause-read : goal.returns-then-level-eq0-clause-read

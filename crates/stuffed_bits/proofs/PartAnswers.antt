@@ -1,0 +1,84 @@
+-- A number is that of the bits that are left, in parts; where they are too few, none is answered.
+use Rattle.std.proofs.Common.{◌≡◌, ◌<◌, ◌≤◌, ◌+◌, ◌-◌, ◌*◌, ◌^◌, ℕ, Bool, true, false, List, [], ◌∷◌, ◌++◌, length, drop, nat_le, Option, Some, None, refl, sym, ◌∙◌, ap, subst, arith, append_assoc}
+use Rattle.std.specs.List.{slice_range}
+use Rattle.std.proofs.lemmas.Bool.{le-leb, lt-leb}
+use Rattle.std.proofs.lemmas.List.{append-nil, length-append, length-drop, drop_at}
+use Rattle.codestream_model.specs.StuffedBits.{number_bits, carried_after, sound_after, packed_bits}
+use Rattle.codestream_model.proofs.BitLemmas.{number_bits-length, number_of_bits}
+use Rattle.stuffed_bits.specs.Stands.{before_next}
+use Rattle.stuffed_bits.specs.Hand.{Hand}
+use Rattle.stuffed_bits.specs.BitsRead.{HasRead, answer_by, answer_after}
+use Rattle.stuffed_bits.specs.NumbersRead.{number_after}
+use Rattle.stuffed_bits.specs.declared.bit_in.BitOut.TheVariants as bit
+use Rattle.stuffed_bits.specs.declared.numbers.NumberOut.TheVariants.{Number, Need, Stuffed}
+use Rattle.stuffed_bits.proofs.ReadLemmas.{bits_of_all, range_none}
+use Rattle.stuffed_bits.proofs.RangeLemmas.{ranges_join, range_and_rest}
+use Rattle.stuffed_bits.proofs.PartLemmas.{joined_bits}
+
+-- where the answer to a bit is that none is left
+none_left : (l : List Bool) (o : Option ℕ) → answer_by l o ≡ bit.Need → (l ≡ []) × (o ≡ None)
+none_left [] None e = (refl, refl)
+none_left [] (Some place) e = absurd (cc)
+none_left (b ∷ l) o e = absurd (cc)
+
+broken_behind : (l : List Bool) (o : Option ℕ) → answer_by l o ≡ bit.Stuffed → (l ≡ []) × ((place : ℕ) × (o ≡ Some place))
+broken_behind [] (Some place) e = (refl, (place, refl))
+broken_behind [] None e = absurd (cc)
+broken_behind (b ∷ l) o e = absurd (cc)
+
+-- too few bits are left
+too_few : (width done v : ℕ) (bits all : List Bool) → done < width → drop (length (bits ++ number_bits done v)) all ≡ [] → nat_le width (length (drop (length bits) all)) ≡ false
+too_few width done v bits all few e =
+    lt-leb width (length (drop (length bits) all))
+    (omega (arith, ap length e, length-drop (length (bits ++ number_bits done v)) all, length-append bits (number_bits done v), number_bits-length done v, length-drop (length bits) all))
+
+-- no number is answered where a bit is wanted behind its first ones, and none is left
+pub number_needs : (width done v : ℕ) (bits : List Bool) (bytes piece : List ℕ) (at mid : ℕ) → done < width → at ≤ mid
+    → answer_after (bits ++ number_bits done v) (packed_bits ((bytes ++ slice_range piece at mid) ++ drop mid piece)) ≡ bit.Need → Need ≡ number_after width bits (packed_bits (bytes ++ drop at piece))
+number_needs width done v bits bytes piece at mid few onward e =
+    let run = packed_bits (bytes ++ drop at piece) in
+    let f : answer_after (bits ++ number_bits done v) run ≡ bit.Need = ap (λ (l : List ℕ). answer_after (bits ++ number_bits done v) (packed_bits l)) (sym (range_and_rest bytes piece at mid onward)) ∙ e in
+    let n = none_left (drop (length (bits ++ number_bits done v)) run.bits) run.broken_at f in
+    rw (too_few width done v bits run.bits few n.0, n.1) refl
+
+-- and so where the stuffing is broken there
+pub number_breaks : (width done v : ℕ) (bits : List Bool) (bytes piece : List ℕ) (at mid : ℕ) → done < width → at ≤ mid
+    → answer_after (bits ++ number_bits done v) (packed_bits ((bytes ++ slice_range piece at mid) ++ drop mid piece)) ≡ bit.Stuffed → Stuffed ≡ number_after width bits (packed_bits (bytes ++ drop at piece))
+number_breaks width done v bits bytes piece at mid few onward e =
+    let run = packed_bits (bytes ++ drop at piece) in
+    let f : answer_after (bits ++ number_bits done v) run ≡ bit.Stuffed = ap (λ (l : List ℕ). answer_after (bits ++ number_bits done v) (packed_bits l)) (sym (range_and_rest bytes piece at mid onward)) ∙ e in
+    let n = broken_behind (drop (length (bits ++ number_bits done v)) run.bits) run.broken_at f in
+    rw (too_few width done v bits run.bits few n.0, n.1.1) refl
+
+-- a number whose bits were all read
+pub number_is : (width v : ℕ) (bits : List Bool) (bytes piece : List ℕ) (at end : ℕ) (h : Hand) → v < 2 ^ width → at ≤ end
+    → HasRead (bits ++ number_bits width v) (bytes ++ slice_range piece at end) h → Number v ≡ number_after width bits (packed_bits (bytes ++ drop at piece))
+number_is width v bits bytes piece at end h small onward r =
+    let all = bytes ++ drop at piece in
+    let last = before_next h.last in
+    let rest = number_bits h.left last ++ carried_after last (sound_after last (drop end piece)) in
+    let whole : (packed_bits all).bits ≡ bits ++ (number_bits width v ++ rest) =
+    ap (λ (l : List ℕ). (packed_bits l).bits) (sym (range_and_rest bytes piece at end onward))
+    ∙ (bits_of_all (bits ++ number_bits width v) (bytes ++ slice_range piece at end) (drop end piece) h r ∙ append_assoc bits (number_bits width v) rest) in
+    let behind : drop (length bits) (packed_bits all).bits ≡ number_bits width v ++ rest = ap (drop (length bits)) whole ∙ drop_at bits (number_bits width v ++ rest) (length bits) refl in
+    let long : nat_le width (length (number_bits width v ++ rest)) ≡ true = le-leb width (length (number_bits width v ++ rest)) (omega (arith, length-append (number_bits width v) rest, number_bits-length width v)) in
+    rw (behind, long) (ap Number (sym (number_of_bits width v small rest)))
+
+-- before the first part
+pub none_done : (width v : ℕ) (bits : List Bool) (bytes piece : List ℕ) (at : ℕ) (h : Hand) → HasRead bits bytes h → HasRead (bits ++ number_bits (width - width) v) (bytes ++ slice_range piece at at) h
+unfolding number_bits
+none_done width v bits bytes piece at h r =
+    let z : width - width ≡ 0 = omega arith in
+    let none : bytes ++ slice_range piece at at ≡ bytes = ap (λ (l : List ℕ). bytes ++ l) (range_none piece at) ∙ append-nil bytes in
+    rw (z, none, append-nil bits) r
+
+-- a part more was read
+pub part_joins : (done count v part : ℕ) (bits : List Bool) (bytes piece : List ℕ) (at mid end : ℕ) (h : Hand) → part < 2 ^ count → at ≤ mid → mid ≤ end
+    → HasRead ((bits ++ number_bits done v) ++ number_bits count part) ((bytes ++ slice_range piece at mid) ++ slice_range piece mid end) h
+    → HasRead (bits ++ number_bits (done + count) (v * 2 ^ count + part)) (bytes ++ slice_range piece at end) h
+part_joins done count v part bits bytes piece at mid end h small t u r =
+    let e : (bits ++ number_bits done v) ++ number_bits count part ≡ bits ++ number_bits (done + count) (v * 2 ^ count + part) =
+    append_assoc bits (number_bits done v) (number_bits count part) ∙ ap (λ (l : List Bool). bits ++ l) (sym (joined_bits done count v part small)) in
+    let P : List Bool → Type 0 = λ l. HasRead l (bytes ++ slice_range piece at end) h in
+    let Q : List ℕ → Type 0 = λ l. HasRead ((bits ++ number_bits done v) ++ number_bits count part) l h in
+    subst P e (subst Q (ranges_join bytes piece at mid end t u) r)
