@@ -7,3 +7,6 @@ pub mod SeatSteps
 pub mod SeatRuns
 pub mod GridRuns
 pub mod HeaderRuns
+pub mod PutSteps
+pub mod Widths
+pub mod SeatWalks

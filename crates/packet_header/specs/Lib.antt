@@ -5,3 +5,5 @@ pub mod Closing
 pub mod Seats
 pub mod Trees
 pub mod Headers
+pub mod Puts
+pub mod Queues

@@ -6,13 +6,18 @@
 #![tactic(auto)]
 
 mod block;
+mod block_bits;
+mod fault;
 mod grids;
+mod judging;
 mod pieces;
+mod queue;
 mod reader;
 mod refusal;
 mod source;
 
 pub use block::{Block, Precinct};
+pub use fault::PutFault;
 pub use reader::HeaderReader;
 pub use refusal::{HeaderOut, HeaderWhy};
 
