@@ -10,3 +10,4 @@ pub mod HeaderRuns
 pub mod PutSteps
 pub mod Widths
 pub mod SeatWalks
+pub mod SeatPuts

@@ -7,3 +7,4 @@ pub mod Trees
 pub mod Headers
 pub mod Puts
 pub mod Queues
+pub mod SeatsWritten

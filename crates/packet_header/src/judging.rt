@@ -8,13 +8,10 @@ ghost use Rattle.packet_header.specs.Answers.{block_of};
 ghost use Rattle.packet_header.specs.Seats.{row_seats};
 ghost use Rattle.packet_header.specs.Queues.{waiting, passed};
 
-use crate::block::Block;
+use crate::block::{Block, MOST_PLANES};
 use crate::pieces::{CLEANUP_END, LEAST_CLEANUP, REFINE_END};
 use crate::queue::Queue;
 use precinct_geometry::Grid;
-
-/// The greatest number of zero bit-planes.
-const MOST_PLANES: u8 = 74;
 
 /// The greatest number of coding passes.
 const MOST_PASSES: u8 = 3;

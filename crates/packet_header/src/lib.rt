@@ -8,6 +8,7 @@
 mod block;
 mod block_bits;
 mod fault;
+mod filling;
 mod grids;
 mod judging;
 mod pieces;
@@ -15,6 +16,7 @@ mod queue;
 mod reader;
 mod refusal;
 mod source;
+mod writing;
 
 pub use block::{Block, Precinct};
 pub use fault::PutFault;
