@@ -11,3 +11,6 @@ pub mod PutSteps
 pub mod Widths
 pub mod SeatWalks
 pub mod SeatPuts
+pub mod LeafPlaces
+pub mod Sitting
+pub mod GridPuts

@@ -21,12 +21,10 @@ pub record Puts {A : Type 0} (bits : List Bool) (old new : Pen) (before after : 
   pub writes : Writes bits old new before after out
   pub goes : Onward old new before after
 
--- a call puts these bits behind all that were put before, or answers `Full` where they reach past the buffer, or has no memory
+-- a call puts these bits behind all that were put before, or answers `Full` where they reach past the buffer
 pub record Fills {A : Type 0} (bits : List Bool) (old new : Pen) (before after : List ℕ) (out : Result A PutFault) : Type 0 where
   pub full : (done : List Bool) → HasWritten done before old → out ≡ Err fault.Full → length before < reach (done ++ bits)
   pub stands : IfOk out (λ _. (done : List Bool) → HasWritten done before old → HasWritten (done ++ bits) after new)
-  pub not_blocks : out ≡ Err fault.Blocks → ⊥
-  pub goes : Onward old new before after
 
 -- the bits of a refinement length: none with one pass
 abbrev pub refine_tail : ℕ → ℕ → ℕ → List Bool

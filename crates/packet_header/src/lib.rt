@@ -22,6 +22,7 @@ pub use block::{Block, Precinct};
 pub use fault::PutFault;
 pub use reader::HeaderReader;
 pub use refusal::{HeaderOut, HeaderWhy};
+pub use writing::write_header;
 
 #[cfg(test)]
 mod tests;
