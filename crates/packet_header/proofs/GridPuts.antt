@@ -1,5 +1,5 @@
 -- What is put of grids, one behind another, and of a whole header.
-use Rattle.std.proofs.Common.{◌≡◌, ◌≢◌, ◌<◌, ◌≤◌, ◌+◌, ◌-◌, ◌++◌, ℕ, zero, suc, min, Bool, true, false, List, [], ◌∷◌, map, length, take, Result, Ok, Err, IfOk, IsErr, refl, sym, ◌∙◌, ap, subst, inl, inr, arith, append_assoc}
+use Rattle.std.proofs.Common.{◌≡◌, ◌≢◌, ◌<◌, ◌≤◌, ◌+◌, ◌-◌, ◌++◌, ℕ, zero, suc, min, Bool, true, false, List, [], ◌∷◌, map, length, take, drop, ◌==◌, Result, Ok, Err, IfOk, IsErr, refl, sym, ◌∙◌, ap, subst, inl, inr, arith, append_assoc}
 use Rattle.std.specs.List.{AllByRecursion, flat_map}
 use Rattle.std.proofs.lemmas.Bool.{le-leb, lt-leb}
 use Rattle.std.proofs.lemmas.Bool.Decides.{leb_tells}
@@ -12,11 +12,13 @@ use Rattle.codestream_model.specs.PacketHeader.{HaveOwnBands, AreBlocks, SpellsH
 use Rattle.codestream_model.proofs.GridLemmas.{pieces-append}
 use Rattle.codestream_model.proofs.PackingLemmas.{packing_packs}
 use Rattle.codestream_model.proofs.WrittenLemmas.{written_is_header}
+use Rattle.stuffed_bits.proofs.PenLemmas.{reach_is}
 use Rattle.stuffed_bits.specs.Pen.{Pen}
 use Rattle.stuffed_bits.specs.BitsWritten.{HasWritten, reach}
 use Rattle.stuffed_bits.specs.declared.bit_writer.Full.{Full}
 use Rattle.tag_tree.specs.LeafWriting.{Writes}
 use Rattle.tag_tree.proofs.ReachLemmas.{past_with_more}
+use Rattle.tag_tree.proofs.WriteLemmas.{behind_both}
 use Rattle.packet_header.specs.Puts.{Fills}
 use Rattle.packet_header.specs.SeatsWritten.{Waits, SeatsPut, GridPut, seats_bits}
 use Rattle.packet_header.specs.declared.grids.TagTrees.{TagTrees}
@@ -163,3 +165,42 @@ written_says gs blocks n bytes bands are e within short =
 pub err_waits : {A : Type 0} (P : A → Type 0) (out : Result A PutFault) → IsErr out → IfOk out P
 err_waits P (Ok x) is = absurd (cc)
 err_waits P (Err e) is = tt
+
+-- bits behind those for which there was no room
+pub fills_more : (bits more : List Bool) (old new : Pen) (before after : List ℕ) (out : Result (Unit {0}) PutFault) → IsErr out → Fills {A = Unit {0}} bits old new before after out → Fills {A = Unit {0}} (bits ++ more) old new before after out
+fills_more bits more old new before after (Ok x) is one = absurd (cc)
+fills_more bits more old new before after (Err other) is one = record { full = λ done r f. past_with_more done bits more (length before) (one.full done r f); stands = tt }
+
+-- a list that isn't empty
+pub some_left : {X Y : Type 0} (f : X → Y) (xs : List X) → false ≡ (length xs == 0) → length (map f xs) ≢ 0
+some_left f [] e = absurd (cc)
+some_left f (x ∷ xs) e = λ z. omega arith
+
+-- the bytes of a header that there was no room for, or that were written
+pub header_full : (gs : List values.Grid) (blocks : List values.Block) (old new : Pen) (before after : List ℕ) (why : PutFault) → ((buf : List ℕ) → HasWritten [] buf old)
+    → Fills {A = Unit {0}} (written_bits gs blocks) old new before after (Err why) → why ≡ fault.Full → length before < length (written_header gs blocks)
+header_full gs blocks old new before after why none f e =
+    let far : length before < reach (written_bits gs blocks) = f.full [] (none before) (ap (λ (x : PutFault). Err x) e) in
+    omega (arith, far, reach_within (written_bits gs blocks))
+
+pub header_stands : (gs : List values.Grid) (blocks : List values.Block) (old new : Pen) (before after : List ℕ) (x : Unit {0}) → ((buf : List ℕ) → HasWritten [] buf old)
+    → Fills {A = Unit {0}} (written_bits gs blocks) old new before after (Ok x) → HasWritten (written_bits gs blocks) after new
+header_stands gs blocks old new before after x none f = f.stands [] (none before)
+
+-- as many bytes as a header has
+pub header_size : (n : ℕ) (bytes header : List ℕ) → take n bytes ≡ header → n ≤ length bytes → n ≡ length header
+header_size n bytes header e within =
+    let size : length (take n bytes) ≡ min n (length bytes) = length-take n bytes in
+    let same : length (take n bytes) ≡ length header = ap length e in
+    omega arith
+
+-- the bytes behind a header are as they were
+pub header_behind : (bits : List Bool) (before between after : List ℕ) (w : Pen) (n : ℕ) → 0 < w.len → HasWritten bits between w → take n after ≡ packing bits → n ≤ length after
+    → drop w.len between ≡ drop w.len before → drop n after ≡ drop n between → drop n after ≡ drop n before
+header_behind bits before between after w n some r e within a b =
+    let far : w.len ≤ n = omega (arith, reach_is bits between w some r, reach_within bits, header_size n after (packing bits) e within) in
+    behind_both before between after w.len n far a b
+
+-- equal answers have one fault
+pub same_fault : {A : Type 0} (x y : PutFault) → let P : Result A PutFault → Result A PutFault → Type 0 = λ a b. a ≡ b in P (Err x) (Err y) → x ≡ y
+same_fault x y e = cc
