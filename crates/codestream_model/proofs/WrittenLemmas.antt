@@ -76,7 +76,7 @@ written_inclusion blocks g = record {
 }
 
 -- each of the code-blocks stands alone at its seat
-abbrev StandAlone : List Block → Type 0
+abbrev pub StandAlone : List Block → Type 0
 StandAlone blocks = AllByRecursion (λ (b : Block). filter (stands_at (seat_of b)) blocks ≡ b ∷ []) blocks
 
 -- a leaf has the zero bit-planes of the one that stands there
@@ -102,14 +102,14 @@ written_planes blocks g alone limits = record {
 }
 
 -- two seats are one
-abbrev same_seat : Seat → Seat → Bool
+abbrev pub same_seat : Seat → Seat → Bool
 same_seat s t = (t.band == s.band) && ((t.col == s.col) && (t.row == s.row))
 
 -- or two
-abbrev IsApart : Seat → Seat → Type 0
+abbrev pub IsApart : Seat → Seat → Type 0
 IsApart s t = (same_seat s t ≡ false) × (same_seat t s ≡ false)
 
-abbrev AreApart : List Seat → Type 0
+abbrev pub AreApart : List Seat → Type 0
 AreApart [] = Unit {0}
 AreApart (s ∷ more) = AllByRecursion (IsApart s) more × AreApart more
 
@@ -138,12 +138,12 @@ apart-append band [] ys a b c d = b
 apart-append band (s ∷ xs) ys a b c d = (all-append (IsApart s) xs ys a.0 (bands_apart s band ys c.0 d), apart-append band xs ys a.1 b c.1 d)
 
 -- so the seats of grids are apart,
-grids_apart : (gs : List Grid) → HaveOwnBands gs → AreApart (flat_map seats gs)
+pub grids_apart : (gs : List Grid) → HaveOwnBands gs → AreApart (flat_map seats gs)
 grids_apart [] h = tt
 grids_apart (g ∷ gs) h = apart-append g.band (seats g) (flat_map seats gs) (distinct_apart (seats g) (seats_distinct g)) (grids_apart gs h.1) (band_of_seats g) (other_bands g gs h.0)
 
 -- and those that pass a test
-apart-filter : (test : Seat → Bool) (xs : List Seat) → AreApart xs → AreApart (filter test xs)
+pub apart-filter : (test : Seat → Bool) (xs : List Seat) → AreApart xs → AreApart (filter test xs)
 apart-filter test [] a = tt
 apart-filter test (s ∷ xs) a = elim (either (test s)) [
   | inl t ↦ rw t (all-filter (IsApart s) test xs a.0, apart-filter test xs a.1)
@@ -160,7 +160,7 @@ still_alone : (b : Block) (blocks xs : List Block) → AllByRecursion (IsApart (
 still_alone b blocks [] a s = tt
 still_alone b blocks (x ∷ xs) a s = (rw a.0.1 s.0, still_alone b blocks xs a.1 s.1)
 
-stand_alone : (blocks : List Block) → AreApart (map seat_of blocks) → StandAlone blocks
+pub stand_alone : (blocks : List Block) → AreApart (map seat_of blocks) → StandAlone blocks
 stand_alone [] a = tt
 stand_alone (b ∷ blocks) a = (rw (stands_here b) (ap (λ (l : List Block). b ∷ l) (no_others b blocks a.0)), still_alone b blocks blocks a.0 (stand_alone blocks a.1))
 
@@ -173,7 +173,7 @@ lblock_low : (b : Block) → exponent (b.cleanup + 1) ≤ 16 → exponent (b.ref
 lblock_low b c r = elim (either (b.passes == 3)) [ inl t ↦ rw t (omega arith) | inr t ↦ rw t (omega arith) ]
 
 -- the least Lblock fits, and isn't above 24
-lblock_fits : (b : Block) → IsWithinLimits b → FitLengths (least_lblock b) b × (least_lblock b ≤ 24)
+pub lblock_fits : (b : Block) → IsWithinLimits b → FitLengths (least_lblock b) b × (least_lblock b ≤ 24)
 lblock_fits b l =
     let c = exponent_is_least (b.cleanup + 1) in
     let r = exponent_is_least (b.refine + 1) in

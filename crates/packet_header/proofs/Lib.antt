@@ -7,3 +7,10 @@ pub mod SeatSteps
 pub mod SeatRuns
 pub mod GridRuns
 pub mod HeaderRuns
+pub mod PutSteps
+pub mod Widths
+pub mod SeatWalks
+pub mod SeatPuts
+pub mod LeafPlaces
+pub mod Sitting
+pub mod GridPuts

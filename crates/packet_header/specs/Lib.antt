@@ -5,3 +5,6 @@ pub mod Closing
 pub mod Seats
 pub mod Trees
 pub mod Headers
+pub mod Puts
+pub mod Queues
+pub mod SeatsWritten

@@ -1,6 +1,9 @@
 //! An included code-block, and a precinct with its packet.
 use precinct_geometry::Place;
 
+/// The greatest number of zero bit-planes.
+pub const MOST_PLANES: u8 = 74;
+
 /// A code-block that a packet includes, and what its header says of it.
 #[derive(Clone, Copy, Debug, Default, PartialEq, Eq)]
 pub struct Block {

@@ -6,15 +6,23 @@
 #![tactic(auto)]
 
 mod block;
+mod block_bits;
+mod fault;
+mod filling;
 mod grids;
+mod judging;
 mod pieces;
+mod queue;
 mod reader;
 mod refusal;
 mod source;
+mod writing;
 
 pub use block::{Block, Precinct};
+pub use fault::PutFault;
 pub use reader::HeaderReader;
 pub use refusal::{HeaderOut, HeaderWhy};
+pub use writing::write_header;
 
 #[cfg(test)]
 mod tests;

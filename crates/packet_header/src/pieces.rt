@@ -12,19 +12,19 @@ use crate::refusal::{HeaderWhy, Stop};
 use crate::source::Source;
 
 /// The least Lblock (T.800 B.10.7.1),
-const LEAST_LBLOCK: u8 = 3;
+pub const LEAST_LBLOCK: u8 = 3;
 
 /// and the greatest.
 const MOST_LENGTH_BITS: u8 = 24;
 
 /// A cleanup segment has at least so many bytes,
-const LEAST_CLEANUP: u32 = 2;
+pub const LEAST_CLEANUP: u32 = 2;
 
 /// and fewer than so many.
-const CLEANUP_END: u32 = 65_535;
+pub const CLEANUP_END: u32 = 65_535;
 
 /// A refinement segment has fewer than so many bytes.
-const REFINE_END: u32 = 2_047;
+pub const REFINE_END: u32 = 2_047;
 
 /// Reads the number of coding passes, 1 to 3: `0`, `10` or `1100`.
 pub fn passes(source: &mut Source<'_>) -> Result<u8, Stop>
@@ -80,7 +80,7 @@ pub fn cleanup(lblock: u8, source: &mut Source<'_>) -> Result<u32, Stop>
 }
 
 /// The bits of a refinement length.
-fn refine_bits(passes: u8, lblock: u8) -> u8
+pub fn refine_bits(passes: u8, lblock: u8) -> u8
     requires { lblock ≤ 24 }
     ensures width { result ≡ refine_width passes lblock }
     ensures low { result ≤ 25 }

@@ -1,0 +1,4 @@
+use Rattle.packet_header.proofs.block_bits.+put_number.Given as goal
+
+abbrev pub decreases-put_number : goal.decreases-put_number
+decreases-put_number l = l.width
