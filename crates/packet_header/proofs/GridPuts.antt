@@ -4,12 +4,12 @@ use Rattle.std.specs.List.{AllByRecursion, flat_map}
 use Rattle.std.proofs.lemmas.Bool.{le-leb, lt-leb}
 use Rattle.std.proofs.lemmas.Bool.Decides.{leb_tells}
 use Rattle.std.proofs.lemmas.List.{append-nil, length-take}
+use Rattle.std.proofs.lemmas.List.Concat.{flat_map-append}
 use Rattle.codestream_model.specs.Values as values
 use Rattle.codestream_model.specs.StuffedBits.{width_after, packing, Packs, bytes_of_bits}
 use Rattle.codestream_model.specs.TagTrees.{Seat, seats}
-use Rattle.codestream_model.specs.HeaderPieces.{bits_of, seat_pieces, header_pieces}
+use Rattle.codestream_model.specs.HeaderPieces.{piece_bits, bits_of, seat_pieces, header_pieces}
 use Rattle.codestream_model.specs.PacketHeader.{HaveOwnBands, AreBlocks, SpellsHeader, least_choices, written_bits, written_header}
-use Rattle.codestream_model.proofs.GridLemmas.{pieces-append}
 use Rattle.codestream_model.proofs.PackingLemmas.{packing_packs}
 use Rattle.codestream_model.proofs.WrittenLemmas.{written_is_header}
 use Rattle.stuffed_bits.proofs.PenLemmas.{reach_is}
@@ -83,7 +83,7 @@ abbrev pub grids_bits : List values.Grid → List values.Block → List Bool
 grids_bits gs blocks = bits_of (header_pieces gs (least_choices blocks) blocks)
 
 pub grid_bits : (g : values.Grid) (gs : List values.Grid) (blocks : List values.Block) → grids_bits (g ∷ gs) blocks ≡ seats_bits g blocks (seats g) ++ grids_bits gs blocks
-grid_bits g gs blocks = pieces-append (flat_map (seat_pieces g (least_choices blocks) blocks) (seats g)) (header_pieces gs (least_choices blocks) blocks)
+grid_bits g gs blocks = flat_map-append piece_bits (flat_map (seat_pieces g (least_choices blocks) blocks) (seats g)) (header_pieces gs (least_choices blocks) blocks)
 
 -- some grids are put, and these follow
 pub record GridsPut (all rest : List values.Grid) (blocks waiting : List values.Block) (old new : Pen) (before after : List ℕ) : Type 0 where

@@ -7,12 +7,11 @@ use Rattle.std.proofs.lemmas.List.Concat.{flat_map-append}
 use Rattle.codestream_model.specs.Values as values
 use Rattle.codestream_model.specs.StuffedBits.{number_bits}
 use Rattle.codestream_model.specs.TagTrees.{Seat, seats, seat_of, inclusion_bits, value_steps, least_inclusion, least_planes}
-use Rattle.codestream_model.specs.HeaderPieces.{Piece, InclusionPiece, PlanesPiece, RefinePiece, bits_of, passes_code, run_of, stands_at, refine_width, block_pieces, seat_pieces}
+use Rattle.codestream_model.specs.HeaderPieces.{Piece, InclusionPiece, PlanesPiece, RefinePiece, piece_bits, bits_of, passes_code, run_of, stands_at, refine_width, block_pieces, seat_pieces}
 use Rattle.codestream_model.specs.PacketHeader.{is_included, least_lblock, first_lblock, lblock_at, least_choices}
 use Rattle.codestream_model.proofs.ReadingLemmas.{segment_pieces}
 use Rattle.codestream_model.proofs.TreeLemmas.{AreDistinct, either, among_all}
 use Rattle.codestream_model.proofs.SeatLemmas.{distinct-filter, seats_distinct, none_stands, stands_here}
-use Rattle.codestream_model.proofs.GridLemmas.{pieces-append}
 use Rattle.stuffed_bits.specs.Pen.{Pen}
 use Rattle.stuffed_bits.specs.declared.bit_writer.Full.{Full}
 use Rattle.tag_tree.specs.Grove.{Grove}
@@ -48,7 +47,7 @@ first_bits g blocks s = bits_of (map InclusionPiece (inclusion_bits g (least_inc
 seat_by_parts : (g : values.Grid) (blocks : List values.Block) (s : Seat) → seats_bits g blocks (s ∷ []) ≡ first_bits g blocks s ++ block_bits g blocks (filter (stands_at s) blocks)
 seat_by_parts g blocks s =
     ap bits_of (append-nil (seat_pieces g (least_choices blocks) blocks s))
-    ∙ pieces-append (map InclusionPiece (inclusion_bits g (least_inclusion blocks g.band) s)) (flat_map (block_pieces g (least_choices blocks) blocks) (filter (stands_at s) blocks))
+    ∙ flat_map-append piece_bits (map InclusionPiece (inclusion_bits g (least_inclusion blocks g.band) s)) (flat_map (block_pieces g (least_choices blocks) blocks) (filter (stands_at s) blocks))
 
 -- what is written of its inclusion
 pub inclusion_put : (g : values.Grid) (blocks : List values.Block) (earlier later : List Seat) (s : Seat) (t : TagTrees) → t.inclusion.cols ≡ g.cols → t.inclusion.rows ≡ g.rows → seats g ≡ earlier ++ s ∷ later
@@ -145,7 +144,7 @@ block_alone g blocks earlier later s b planes c r e own included there alone =
     let pieces = segment_pieces (lblock_at blocks (seat_of b)) b in
     ap (λ (l : List Bool). l ++ value_bits (least_lblock b) b) labelled
     ∙ (ap (λ (l : List Bool). bits_of planes_pieces ++ l) valued
-    ∙ (sym (pieces-append planes_pieces pieces)
+    ∙ (sym (flat_map-append piece_bits planes_pieces pieces)
     ∙ (ap bits_of (sym (append-nil (planes_pieces ++ pieces)))
     ∙ ap (block_bits g blocks) (sym alone))))
 
@@ -227,7 +226,7 @@ no_seat_put g t waiting w buf = λ blocks earlier later rest sits e written wait
 pub seats_bits-append : (g : values.Grid) (blocks : List values.Block) (xs ys : List Seat) → seats_bits g blocks (xs ++ ys) ≡ seats_bits g blocks xs ++ seats_bits g blocks ys
 seats_bits-append g blocks xs ys =
     ap bits_of (flat_map-append (seat_pieces g (least_choices blocks) blocks) xs ys)
-    ∙ pieces-append (flat_map (seat_pieces g (least_choices blocks) blocks) xs) (flat_map (seat_pieces g (least_choices blocks) blocks) ys)
+    ∙ flat_map-append piece_bits (flat_map (seat_pieces g (least_choices blocks) blocks) xs) (flat_map (seat_pieces g (least_choices blocks) blocks) ys)
 
 pub ok_along : {A : Type 0} (P Q : A → Type 0) (out : Result A Full) → ((x : A) → P x → Q x) → IfOk out P → IfOk out Q
 ok_along P Q (Ok x) f a = f x a

@@ -9,7 +9,7 @@ use Rattle.codestream_model.specs.TagTrees.{Seat, IsSeat, seats, seat_of}
 use Rattle.codestream_model.specs.PacketHeader.{HaveOwnBands, is_included, AreBlocks}
 use Rattle.codestream_model.proofs.TreeLemmas.{either}
 use Rattle.codestream_model.proofs.SeatLemmas.{all-map, all-filter, seats_are_seats}
-use Rattle.codestream_model.proofs.HeaderLemmas.{band_of_seats, other_bands}
+use Rattle.codestream_model.proofs.BandLemmas.{band_of_seats, other_bands}
 use Rattle.codestream_model.proofs.WrittenLemmas.{AreApart, grids_apart, apart-filter, stand_alone}
 use Rattle.packet_header.specs.SeatsWritten.{SitsOn}
 
