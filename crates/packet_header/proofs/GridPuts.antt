@@ -33,10 +33,6 @@ pub fills_full : (bits : List Bool) (old new : Pen) (before after : List ℕ) (w
 fills_full bits old new before after why (Ok x) is w = absurd (cc)
 fills_full bits old new before after why (Err other) is w = record { full = λ done r e. (w.full done r).0 refl; stands = tt }
 
--- without memory nothing is said
-pub fills_not : (A : Type 0) (bits : List Bool) (old new : Pen) (before after : List ℕ) → Fills {A = A} bits old new before after (Err fault.NoMemory)
-fills_not A bits old new before after = record { full = λ done r e. absurd (cc); stands = tt }
-
 -- no bits
 pub fills_none : (w : Pen) (buf : List ℕ) → Fills {A = Unit {0}} [] w w buf buf (Ok tt)
 fills_none w buf = record {

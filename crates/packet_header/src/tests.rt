@@ -1,5 +1,8 @@
 //! Packet headers that were worked out by hand from the bits, or by another program.
-ghost use Rattle.std.specs.Prelude.{◌≡◌, ◌≤◌, ◌+◌, ◌*◌, [], ◌∷◌};
+ghost use Rattle.std.specs.Prelude.{◌≡◌, ◌≤◌, ◌+◌, ◌*◌, [], ◌∷◌, map};
+ghost use Rattle.codestream_model.specs.Packet.{block_count};
+ghost use Rattle.codestream_model.specs.PacketHeader.{HaveOwnBands};
+ghost use Rattle.precinct_geometry.specs.Spans.{grid_of};
 
 use super::*;
 use precinct_geometry::{Bands, Grid};
@@ -292,5 +295,256 @@ fn each_band_has_trees_of_its_own(rt: HostRuntime) -> Result<(), AllocError> {
         block!(3, 0, 0, 1, 1, 2, 0),
     ];
     assert_eq!(rt; reader.blocks(), four.as_slice());
+    Ok(())
+}
+
+/// What a buffer holds where nothing was written.
+const BLANK: [u8; 24] = [0x55; 24];
+
+/// Whether these code-blocks have this header, the bytes behind it stay, and a shorter buffer is full.
+fn is_written(alloc: Global, bands: &Bands, blocks: &[Block], header: &[u8]) -> bool
+    requires own_bands { HaveOwnBands (map grid_of bands.now.items) }
+    requires few { block_count (map grid_of bands.now.items) ≤ 65536 }
+{
+    let mut buf = BLANK;
+    match write_header(alloc, bands, blocks, &mut buf) {
+        Err(_) => false,
+        Ok(size) => {
+            let shorter = size.saturating_sub(1);
+            let same = &buf[..size] == header && buf[size..] == BLANK[size..];
+            let full = write_header(alloc, bands, blocks, &mut buf[..shorter]);
+            same && full == Err(PutFault::Full)
+        }
+    }
+}
+
+#[test]
+fn headers_of_one_code_block_are_written(rt: HostRuntime) -> Result<(), PutFault> {
+    let cases: [(Block, &[u8]); 12] = [
+        (block!(0, 0, 0, 2, 1, 2, 0), &[0xC8, 0x80]),
+        (block!(0, 0, 0, 0, 2, 2, 3), &[0xF1, 0x30]),
+        (block!(0, 0, 0, 0, 2, 2, 8), &[0xF4, 0x50]),
+        (block!(0, 0, 0, 0, 3, 2, 3), &[0xF8, 0x46]),
+        (block!(0, 0, 0, 0, 3, 2, 15), &[0xF8, 0x5E]),
+        (block!(0, 0, 0, 0, 3, 2, 16), &[0xF9, 0x14, 0x00]),
+        (
+            block!(0, 0, 0, 0, 3, 2, 2_046),
+            &[0xF9, 0xFC, 0x01, 0x7F, 0xE0],
+        ),
+        (
+            block!(0, 0, 0, 0, 2, 2, 2_046),
+            &[0xF7, 0xF8, 0x01, 0x7F, 0xE0],
+        ),
+        (block!(0, 0, 0, 0, 1, 255, 0), &[0xEF, 0xBF, 0xC0]),
+        (
+            block!(0, 0, 0, 0, 1, 65_534, 0),
+            &[0xEF, 0xFF, 0x5F, 0xFF, 0x60],
+        ),
+        (
+            block!(0, 0, 0, 0, 3, 65_534, 2_046),
+            &[0xF9, 0xFF, 0x7B, 0xFF, 0x7C, 0x07, 0xFE],
+        ),
+        (
+            block!(0, 0, 0, 74, 1, 2, 0),
+            &[0xC0, 0, 0, 0, 0, 0, 0, 0, 0, 0x08, 0x80],
+        ),
+    ];
+    let bands = lowest(1, 1);
+    for (block, header) in cases {
+        assert!(rt; is_written(rt.alloc(), &bands, &[block], header));
+    }
+    assert!(rt; is_written(rt.alloc(), &bands, &[], &[0x00]));
+    Ok(())
+}
+
+#[test]
+fn headers_of_more_code_blocks_are_written(rt: HostRuntime) -> Result<(), PutFault> {
+    let second = [block!(0, 1, 0, 1, 1, 2, 0)];
+    assert!(rt; is_written(rt.alloc(), &lowest(2, 1), &second, &[0xD6, 0x20]));
+    let last = [block!(0, 3, 0, 74, 1, 2, 0)];
+    let header = [0xD4, 0, 0, 0, 0, 0, 0, 0, 0, 0, 0xE2];
+    assert!(rt; is_written(rt.alloc(), &lowest(4, 1), &last, &header));
+    let below = [block!(2, 0, 0, 1, 1, 3, 0)];
+    let bands = higher((0, 0), (1, 1), (0, 0));
+    assert!(rt; is_written(rt.alloc(), &bands, &below, &[0xD1, 0x80]));
+    assert!(rt; is_written(rt.alloc(), &bands, &[], &[0x00]));
+    let four = [
+        block!(1, 1, 0, 3, 1, 5, 0),
+        block!(2, 0, 0, 0, 2, 100, 60),
+        block!(2, 0, 1, 4, 3, 9, 17),
+        block!(3, 0, 0, 1, 1, 2, 0),
+    ];
+    let header = [0xD1, 0x97, 0xEF, 0x64, 0x79, 0x0E, 0x53, 0x1A, 0x20];
+    let bands = higher((2, 1), (1, 2), (1, 1));
+    assert!(rt; is_written(rt.alloc(), &bands, &four, &header));
+    let five = [
+        block!(0, 0, 0, 3, 1, 40, 0),
+        block!(0, 3, 0, 1, 2, 70, 9),
+        block!(0, 4, 1, 5, 3, 200, 300),
+        block!(0, 1, 2, 3, 1, 2, 0),
+        block!(0, 2, 2, 0, 1, 31, 0),
+    ];
+    let header = [
+        0xFE, 0x37, 0x50, 0xAE, 0xF4, 0x61, 0x38, 0x20, 0xF9, 0xF6, 0x44, 0xB2, 0x8C, 0x5E, 0xDF,
+        0x00,
+    ];
+    assert!(rt; is_written(rt.alloc(), &lowest(5, 3), &five, &header));
+    Ok(())
+}
+
+/// Whether these code-blocks are refused, whatever the buffer.
+fn are_refused(alloc: Global, bands: &Bands, blocks: &[Block]) -> bool
+    requires own_bands { HaveOwnBands (map grid_of bands.now.items) }
+    requires few { block_count (map grid_of bands.now.items) ≤ 65536 }
+{
+    let mut buf = BLANK;
+    let wide = write_header(alloc, bands, blocks, &mut buf);
+    let empty = write_header(alloc, bands, blocks, &mut []);
+    wide == Err(PutFault::Blocks) && empty == Err(PutFault::Blocks)
+}
+
+#[test]
+fn code_blocks_that_no_packet_includes_are_refused(rt: HostRuntime) -> Result<(), PutFault> {
+    let good = block!(0, 0, 0, 0, 1, 2, 0);
+    let cases: [&[Block]; 16] = [
+        &[block!(0, 1, 0, 0, 1, 2, 0), good],
+        &[block!(0, 0, 1, 0, 1, 2, 0), block!(0, 1, 0, 0, 1, 2, 0)],
+        &[good, good],
+        &[good, block!(0, 0, 0, 3, 2, 9, 9)],
+        &[block!(0, 2, 0, 0, 1, 2, 0)],
+        &[block!(0, 0, 2, 0, 1, 2, 0)],
+        &[block!(1, 0, 0, 0, 1, 2, 0)],
+        &[good, block!(1, 1, 0, 0, 1, 2, 0)],
+        &[block!(0, 0, 0, 0, 0, 2, 0)],
+        &[block!(0, 0, 0, 0, 4, 2, 0)],
+        &[block!(0, 0, 0, 75, 1, 2, 0)],
+        &[block!(0, 0, 0, 0, 1, 1, 0)],
+        &[block!(0, 0, 0, 0, 1, 65_535, 0)],
+        &[block!(0, 0, 0, 0, 2, 2, 2_047)],
+        &[block!(0, 0, 0, 0, 1, 2, 1)],
+        &[good, block!(0, 1, 0, 0, 3, 2, 2_047)],
+    ];
+    let bands = lowest(2, 2);
+    for blocks in cases {
+        assert!(rt; are_refused(rt.alloc(), &bands, blocks));
+    }
+    let swapped = [block!(2, 0, 0, 0, 1, 2, 0), block!(1, 0, 0, 0, 1, 2, 0)];
+    assert!(rt; are_refused(rt.alloc(), &higher((1, 1), (1, 1), (1, 1)), &swapped));
+    Ok(())
+}
+
+/// Adds the code-blocks of a grid, all included.
+fn include_all(
+    blocks: &mut Vec<Block>,
+    band: u8,
+    cols: u32,
+    rows: u32,
+) -> Result<(), AllocError> {
+    for row in 0..rows {
+        for col in 0..cols {
+            blocks.push(Block {
+                band,
+                col,
+                row,
+                planes: 0,
+                passes: 1,
+                cleanup: 2,
+                refine: 0,
+            })?;
+        }
+    }
+    Ok(())
+}
+
+/// A buffer that is longer than the longest header.
+fn long_buffer(alloc: Global) -> Result<Vec<u8>, AllocError> {
+    vec![in alloc; 0x55u8; 70_000]
+}
+
+/// The first of these bytes, so many or all.
+fn front(bytes: &[u8], size: usize) -> &[u8] {
+    &bytes[..size.min(bytes.len())]
+}
+
+/// What is read of so many bytes.
+fn read_front(
+    alloc: Global,
+    bands: &Bands,
+    bytes: &[u8],
+    size: usize,
+) -> Result<HeaderOut, AllocError>
+    requires own_bands { HaveOwnBands (map grid_of bands.now.items) }
+    requires few { block_count (map grid_of bands.now.items) ≤ 65536 }
+{
+    let mut reader = HeaderReader::reserve(alloc, 65_536)?;
+    Ok(reader.read(bands, front(bytes, size)))
+}
+
+/// Whether these code-blocks are read of these bytes, and they are a header of this size.
+fn is_read_back(
+    alloc: Global,
+    bands: &Bands,
+    blocks: &[Block],
+    bytes: &[u8],
+    size: usize,
+) -> Result<bool, AllocError>
+    requires own_bands { HaveOwnBands (map grid_of bands.now.items) }
+    requires few { block_count (map grid_of bands.now.items) ≤ 65536 }
+{
+    let mut reader = HeaderReader::reserve(alloc, 65_536)?;
+    let out = reader.read(bands, bytes);
+    Ok(out == HeaderOut::Done(size) && reader.blocks() == blocks)
+}
+
+#[test]
+fn a_header_of_65_536_code_blocks_is_read_back(rt: HostRuntime) -> Result<(), PutFault> {
+    let mut blocks = Vec::new(rt.alloc());
+    include_all(&mut blocks, 1, 256, 128)?;
+    include_all(&mut blocks, 2, 128, 128)?;
+    include_all(&mut blocks, 3, 128, 128)?;
+    assert_eq!(rt; blocks.len(), 65_536);
+    let bands = higher((256, 128), (128, 128), (128, 128));
+    let mut buf = long_buffer(rt.alloc())?;
+    let size = write_header(rt.alloc(), &bands, &blocks, &mut buf);
+    assert_eq!(rt; size, Ok(62_849));
+    assert_eq!(rt; front(&buf, 4), [0xFF, 0x7F, 0xF1, 0x62].as_slice());
+    assert!(rt; front(&buf, 62_849).ends_with(&[0x58, 0xB1, 0x62, 0xC4]));
+    assert!(rt; is_read_back(rt.alloc(), &bands, &blocks, &buf, 62_849)?);
+    Ok(())
+}
+
+/// Writes the header of 256 columns and rows of code-blocks, of which so many, the first ones, have a longer cleanup segment.
+fn write_many(alloc: Global, longer: usize, buf: &mut [u8]) -> Result<usize, PutFault> {
+    let mut blocks = Vec::new(alloc);
+    include_all(&mut blocks, 0, 256, 256)?;
+    for (at, block) in blocks.iter_mut().enumerate() {
+        if at < longer {
+            block.cleanup = 8;
+        }
+    }
+    write_header(alloc, &lowest(256, 256), &blocks, buf)
+}
+
+#[test]
+fn a_header_of_65_536_bytes_is_the_longest_that_is_read(rt: HostRuntime) -> Result<(), PutFault> {
+    let bands = lowest(256, 256);
+    let mut buf = long_buffer(rt.alloc())?;
+    assert_eq!(rt; write_many(rt.alloc(), 10_748, &mut buf), Ok(65_536));
+    let longest = HeaderOut::Done(65_536);
+    assert_eq!(rt; read_front(rt.alloc(), &bands, &buf, 70_000)?, longest);
+    assert_eq!(rt; read_front(rt.alloc(), &bands, &buf, 65_536)?, longest);
+    assert_eq!(rt; read_front(rt.alloc(), &bands, &buf, 65_535)?, HeaderOut::Need);
+    Ok(())
+}
+
+#[test]
+fn a_header_of_65_537_bytes_is_written_and_not_read(rt: HostRuntime) -> Result<(), PutFault> {
+    let bands = lowest(256, 256);
+    let mut buf = long_buffer(rt.alloc())?;
+    assert_eq!(rt; write_many(rt.alloc(), 10_752, &mut buf), Ok(65_537));
+    let too_long = HeaderOut::Bad(HeaderWhy::TooLong);
+    assert_eq!(rt; read_front(rt.alloc(), &bands, &buf, 70_000)?, too_long);
+    assert_eq!(rt; read_front(rt.alloc(), &bands, &buf, 65_536)?, too_long);
+    assert_eq!(rt; read_front(rt.alloc(), &bands, &buf, 65_535)?, HeaderOut::Need);
     Ok(())
 }
