@@ -1,10 +1,10 @@
 -- What is read in parts, one behind another.
-use Rattle.std.proofs.Common.{◌≡◌, ◌≤◌, ◌<◌, ◌+◌, ◌-◌, ◌*◌, ◌^◌, ℕ, zero, suc, Bool, true, false, List, [], ◌∷◌, length, drop, nat_le, nat_lt, Option, Result, Ok, Err, refl, sym, ◌∙◌, ap, subst, inl, inr, arith, if◌then◌else◌}
+use Rattle.std.proofs.Common.{◌≡◌, ◌<◌, ◌+◌, ◌*◌, ◌^◌, ℕ, zero, suc, Bool, true, false, List, [], ◌∷◌, length, drop, nat_le, Result, Ok, Err, refl, sym, ◌∙◌, ap, subst, inl, inr, arith, if◌then◌else◌}
 use Rattle.std.proofs.lemmas.Bool.{le-leb, lt-leb}
 use Rattle.std.proofs.lemmas.Bool.Decides.{leb_tells}
 use Rattle.std.proofs.lemmas.Grind.{pow_more}
 use Rattle.codestream_model.specs.StuffedBits.{bit, number_of, packed_bits}
-use Rattle.codestream_model.specs.HeaderPieces.{HeaderRefusal, Passes, LengthBits}
+use Rattle.codestream_model.specs.HeaderPieces.{Passes, LengthBits}
 use Rattle.codestream_model.specs.PacketHeaderReading.{Read, Got, AtEnd, Refused, and_then, unless, read_bit, read_passes, read_lblock, read_number}
 use mir.Val.{bool_byte}
 use Rattle.packet_header.specs.Standing.{Stands, left}

@@ -1,13 +1,13 @@
 -- What is put of a seat is what the model has there, and seats join.
-use Rattle.std.proofs.Common.{◌≡◌, ◌==◌, ◌&&◌, ◌-◌, ◌+◌, ◌++◌, ℕ, suc, Bool, true, false, List, [], ◌∷◌, map, length, Option, Some, None, Result, Ok, Err, IfOk, IsErr, refl, sym, ◌∙◌, ap, subst, inl, inr, append_assoc, if◌then◌else◌}
+use Rattle.std.proofs.Common.{◌≡◌, ◌==◌, ◌-◌, ◌++◌, ℕ, Bool, true, false, List, [], ◌∷◌, map, length, Result, Ok, Err, IfOk, IsErr, refl, sym, ◌∙◌, ap, subst, inl, inr, append_assoc, if◌then◌else◌}
 use Rattle.std.specs.List.{AllByRecursion, filter, flat_map, list_any}
-use Rattle.std.proofs.lemmas.List.{append-nil, map-append}
+use Rattle.std.proofs.lemmas.List.{append-nil}
 use Rattle.std.proofs.lemmas.List.Elements.{filter-append}
 use Rattle.std.proofs.lemmas.List.Concat.{flat_map-append}
 use Rattle.codestream_model.specs.Values as values
 use Rattle.codestream_model.specs.StuffedBits.{number_bits}
 use Rattle.codestream_model.specs.TagTrees.{Seat, seats, seat_of, inclusion_bits, value_steps, least_inclusion, least_planes}
-use Rattle.codestream_model.specs.HeaderPieces.{Piece, InclusionPiece, PlanesPiece, RefinePiece, bits_of, passes_code, run_of, stands_at, refine_width, block_pieces, seat_pieces}
+use Rattle.codestream_model.specs.HeaderPieces.{InclusionPiece, PlanesPiece, RefinePiece, bits_of, passes_code, run_of, stands_at, refine_width, block_pieces, seat_pieces}
 use Rattle.codestream_model.specs.PacketHeader.{is_included, least_lblock, first_lblock, lblock_at, least_choices}
 use Rattle.codestream_model.proofs.ReadingLemmas.{segment_pieces}
 use Rattle.codestream_model.proofs.TreeLemmas.{AreDistinct, either, among_all}

@@ -1,16 +1,16 @@
 -- A reader that has given further bits stands behind these.
-use Rattle.std.proofs.Common.{◌≡◌, ◌≤◌, ◌<◌, ◌+◌, ◌-◌, ◌⊎◌, ℕ, zero, suc, Bool, true, false, List, [], ◌∷◌, ◌++◌, length, take, drop, Option, Some, None, Ok, Err, refl, sym, ◌∙◌, ap, subst, inl, inr, arith, append_assoc}
+use Rattle.std.proofs.Common.{◌≡◌, ◌≤◌, ◌+◌, ◌-◌, ◌⊎◌, ℕ, zero, Bool, List, [], ◌∷◌, ◌++◌, length, take, drop, Option, Some, None, Err, refl, sym, ◌∙◌, ap, subst, inl, inr, arith}
 use Rattle.std.specs.List.{slice_range}
-use Rattle.std.proofs.lemmas.List.{append-nil, length-append, length-take, drop-drop, drop_at, take_at, take-append-drop}
+use Rattle.std.proofs.lemmas.List.{length-append, drop-drop, drop_at, take_at, take-append-drop}
 use Rattle.std.proofs.Math.Seq.{take-add}
-use Rattle.codestream_model.specs.StuffedBits.{number_bits, carried_after, carried, packed_bits}
-use Rattle.codestream_model.specs.PacketHeaderReading.{Read, Got, AtEnd, Refused, read_bit}
+use Rattle.codestream_model.specs.StuffedBits.{number_bits, carried_after, packed_bits}
+use Rattle.codestream_model.specs.PacketHeaderReading.{read_bit}
 use Rattle.codestream_model.proofs.BitLemmas.{number_bits-length}
 use Rattle.stuffed_bits.specs.Stands.{before_next}
 use Rattle.stuffed_bits.specs.Hand.{Hand}
 use Rattle.stuffed_bits.specs.BitsRead.{HasRead, given, answer_by, answer_after}
 use Rattle.stuffed_bits.specs.declared.bit_in.BitOut.{BitOut}
-use Rattle.stuffed_bits.specs.declared.bit_in.BitOut.TheVariants.{Bit, Need, Stuffed}
+use Rattle.stuffed_bits.specs.declared.bit_in.BitOut.TheVariants.{Bit}
 use Rattle.packet_header.specs.Standing.{Stands, left, given_of, given_by, StandsIn}
 use Rattle.packet_header.specs.Answers.{bit_answer, stop_at}
 use Rattle.packet_header.specs.Reads.{GoesOn, Reads}

@@ -1,9 +1,9 @@
 -- A number, bit by bit.
-use Rattle.std.proofs.Common.{◌≡◌, ◌<◌, ◌≤◌, ◌+◌, ◌-◌, ◌*◌, ◌^◌, ℕ, suc, Bool, List, Ok, refl, sym, ◌∙◌, ap, subst, arith}
+use Rattle.std.proofs.Common.{◌≡◌, ◌<◌, ◌≤◌, ◌+◌, ◌-◌, ◌*◌, ◌^◌, ℕ, suc, Ok, refl, sym, ◌∙◌, ap, arith}
 use Rattle.std.proofs.lemmas.Result.{err_from_is_err_and}
 use Rattle.std.proofs.Math.Nat.{pow-le-pow_right}
 use Rattle.codestream_model.specs.StuffedBits.{bit}
-use Rattle.codestream_model.specs.PacketHeaderReading.{Read, Got, read_bit, read_number}
+use Rattle.codestream_model.specs.PacketHeaderReading.{Got, read_number}
 use Rattle.packet_header.specs.Standing.{left}
 use Rattle.packet_header.specs.Reads.{Reads}
 use Rattle.packet_header.proofs.Chains.{stays, rebased, reads_stop, BitRead, bit_read, number_from, number_by_bits, number_goes, number_stops, number_done, number_grows, cast_bit}

@@ -1,5 +1,5 @@
 -- The bits so far, and then the rest, make the number.
-use Rattle.std.proofs.Common.{◌≡◌, ◌≤◌, ◌<◌, ◌-◌, ◌^◌, ℕ}
+use Rattle.std.proofs.Common.{◌≡◌, ◌<◌, ◌-◌, ◌^◌}
 use Rattle.packet_header.specs.Standing.{Stands, left}
 use Rattle.packet_header.proofs.Chains.{number_from}
 use Rattle.packet_header.proofs.pieces.number.Given as goal

@@ -1,5 +1,5 @@
 -- The answer is that of the first 65,536 bytes, and so says what they spell.
-use Rattle.std.proofs.Common.{◌≡◌, ◌∷◌, ℕ, List, [], map, length, take, Result, refl, sym, ◌∙◌, ap, subst, arith}
+use Rattle.std.proofs.Common.{ℕ, List, [], map, length, take, ◌∙◌, ap, subst, arith}
 use Rattle.codestream_model.specs.StuffedBits.{packed_bits}
 use Rattle.codestream_model.specs.PacketHeaderReading.{header_of, read_bits}
 use Rattle.codestream_model.proofs.SoundLemmas.{header_sound}
@@ -9,7 +9,6 @@ use Rattle.precinct_geometry.specs.declared.place.Grid.{Grid}
 use Rattle.packet_header.specs.Answers.{Tells}
 use Rattle.packet_header.specs.Headers.{ReadsHeader}
 use Rattle.packet_header.specs.declared.block.Block.{Block}
-use Rattle.packet_header.specs.declared.refusal.HeaderOut.{HeaderOut}
 use Rattle.packet_header.proofs.HeaderRuns.{first_bytes, tells, told_header, header_told}
 use Rattle.packet_header.proofs.reader.HeaderReader.read.Goals as goal
 
