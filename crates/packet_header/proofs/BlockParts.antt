@@ -1,5 +1,5 @@
 -- A code-block, read in parts.
-use Rattle.std.proofs.Common.{◌≡◌, ℕ, Bool, List, Option, Result, Ok, Err, refl, sym, ◌∙◌, ap, subst}
+use Rattle.std.proofs.Common.{◌≡◌, ℕ, Bool, List, refl}
 use Rattle.codestream_model.specs.Values as values
 use Rattle.codestream_model.specs.TagTrees.{Seat}
 use Rattle.codestream_model.specs.PacketHeaderReading.{Read, Got, and_then, read_passes, read_lblock, read_cleanup, read_refine, read_block}

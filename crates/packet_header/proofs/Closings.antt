@@ -1,20 +1,19 @@
 -- What closes the bits that a source has given.
-use Rattle.std.proofs.Common.{◌≡◌, ◌≤◌, ◌<◌, ◌⊎◌, ◌+◌, ◌-◌, ◌==◌, ◌&&◌, ◌++◌, ℕ, zero, suc, Bool, true, false, List, [], ◌∷◌, length, take, drop, slice_index, nat_le, nat_lt, Option, Some, None, IsSome, Result, Ok, Err, refl, sym, ◌∙◌, ap, subst, inl, inr, arith, if◌then◌else◌}
+use Rattle.std.proofs.Common.{◌≡◌, ◌≤◌, ◌<◌, ◌⊎◌, ◌+◌, ◌-◌, ◌==◌, ◌++◌, ℕ, zero, suc, Bool, true, false, List, [], ◌∷◌, length, take, drop, slice_index, nat_lt, Option, Some, None, IsSome, Result, Ok, Err, refl, sym, ◌∙◌, ap, subst, inl, inr, arith, if◌then◌else◌}
 use Rattle.std.proofs.lemmas.Bool.{le-ltb, lt-ltb}
 use Rattle.std.proofs.lemmas.Bool.Decides.{eqb_tells, leb_tells}
 use Rattle.std.proofs.lemmas.List.{length-take, length-append, length-drop, get_or-drop, take-append-drop}
 use Rattle.codestream_model.specs.StuffedBits.{carried_after, sound_after, packed_bits, bytes_of_bits, closing_after}
 use Rattle.stuffed_bits.specs.Stands.{last_from, last_of, before_next}
-use Rattle.stuffed_bits.specs.Hand.{Hand}
 use Rattle.stuffed_bits.specs.BitsRead.{closing_by, closing_answer}
 use Rattle.stuffed_bits.specs.declared.bit_in.BitOut.{BitOut}
-use Rattle.stuffed_bits.specs.declared.bit_in.BitOut.TheVariants.{Bit, Need, Stuffed}
+use Rattle.stuffed_bits.specs.declared.bit_in.BitOut.TheVariants.{Bit, Stuffed}
 use Rattle.stuffed_bits.proofs.StandLemmas.{before_last}
 use Rattle.stuffed_bits.proofs.ReadLemmas.{sound_of_all}
 use Rattle.stuffed_bits.proofs.PackedLemmas.{reach_of}
-use Rattle.packet_header.specs.Standing.{Stands, given_of, given_by, StandsIn}
+use Rattle.packet_header.specs.Standing.{Stands, given_by}
 use Rattle.packet_header.specs.Answers.{bit_answer, stop_at}
-use Rattle.packet_header.specs.Closing.{closed_after, closes}
+use Rattle.packet_header.specs.Closing.{closes}
 use Rattle.packet_header.specs.declared.source.Source.{Source}
 use Rattle.packet_header.specs.declared.refusal.Stop.{Stop}
 use Rattle.packet_header.specs.declared.refusal.Stop.TheVariants.{Need as StopNeed, Bad as StopBad}

@@ -1,7 +1,6 @@
 -- What is put of grids, one behind another, and of a whole header.
-use Rattle.std.proofs.Common.{◌≡◌, ◌≢◌, ◌<◌, ◌≤◌, ◌+◌, ◌-◌, ◌++◌, ℕ, zero, suc, min, Bool, true, false, List, [], ◌∷◌, map, length, take, drop, ◌==◌, Result, Ok, Err, IfOk, IsErr, refl, sym, ◌∙◌, ap, subst, inl, inr, arith, append_assoc}
-use Rattle.std.specs.List.{AllByRecursion, flat_map}
-use Rattle.std.proofs.lemmas.Bool.{le-leb, lt-leb}
+use Rattle.std.proofs.Common.{◌≡◌, ◌≢◌, ◌<◌, ◌≤◌, ◌-◌, ◌++◌, ℕ, min, Bool, true, false, List, [], ◌∷◌, map, length, take, drop, ◌==◌, Result, Ok, Err, IfOk, IsErr, refl, sym, ◌∙◌, ap, subst, inl, inr, arith, append_assoc}
+use Rattle.std.specs.List.{flat_map}
 use Rattle.std.proofs.lemmas.Bool.Decides.{leb_tells}
 use Rattle.std.proofs.lemmas.List.{append-nil, length-take}
 use Rattle.std.proofs.lemmas.List.Concat.{flat_map-append}
@@ -20,8 +19,7 @@ use Rattle.tag_tree.specs.LeafWriting.{Writes}
 use Rattle.tag_tree.proofs.ReachLemmas.{past_with_more}
 use Rattle.tag_tree.proofs.WriteLemmas.{behind_both}
 use Rattle.packet_header.specs.Puts.{Fills}
-use Rattle.packet_header.specs.SeatsWritten.{Waits, SeatsPut, GridPut, seats_bits}
-use Rattle.packet_header.specs.declared.grids.TagTrees.{TagTrees}
+use Rattle.packet_header.specs.SeatsWritten.{Waits, GridPut, seats_bits}
 use Rattle.packet_header.specs.declared.fault.PutFault.{PutFault}
 use Rattle.packet_header.specs.declared.fault.PutFault.TheVariants as fault
 

@@ -1,13 +1,13 @@
 -- A header, read at the front of bytes.
-use Rattle.std.proofs.Common.{◌≡◌, ◌≤◌, ◌<◌, ◌⊎◌, ◌+◌, ◌-◌, ◌==◌, ◌&&◌, ℕ, zero, suc, min, Bool, true, false, List, [], ◌∷◌, ◌++◌, map, length, take, drop, slice_index, nat_le, nat_lt, Option, Some, None, Result, Ok, Err, refl, sym, ◌∙◌, ap, subst, inl, inr, arith, if◌then◌else◌}
-use Rattle.std.proofs.lemmas.Bool.{le-leb, lt-leb, le-ltb, lt-ltb}
+use Rattle.std.proofs.Common.{◌≡◌, ◌≤◌, ◌<◌, ◌-◌, ℕ, suc, min, Bool, true, false, List, [], ◌∷◌, ◌++◌, map, length, take, drop, slice_index, Option, Some, None, Result, Err, refl, sym, ◌∙◌, ap, subst, inl, inr, arith}
+use Rattle.std.proofs.lemmas.Bool.{le-ltb, lt-ltb}
 use Rattle.std.proofs.lemmas.Bool.Decides.{leb_tells, eqb_tells}
 use Rattle.std.proofs.lemmas.List.{length-append, length-take, length-drop, take-append-drop, take_all}
 use Rattle.codestream_model.specs.Values as values
 use Rattle.codestream_model.specs.StuffedBits.{number_bits, width_after, carried_after, carried, sound_after, packed_bits, bytes_of_bits}
 use Rattle.codestream_model.specs.HeaderPieces.{HeaderRefusal, Stuffed, ZeroPlanes, Passes, LengthBits, CleanupShort, CleanupLong, RefineLong, TooLong}
 use Rattle.codestream_model.specs.PacketHeader.{HaveOwnBands}
-use Rattle.codestream_model.specs.PacketHeaderReading.{HeaderReading, Done, Need, Bad, Read, Got, AtEnd, Refused, read_grids, read_bits, end_by, at_end, closed_by, readable_bits, answer_of, header_of}
+use Rattle.codestream_model.specs.PacketHeaderReading.{HeaderReading, Done, Need, Bad, Read, Got, AtEnd, Refused, read_bits, end_by, closed_by, answer_of, header_of}
 use Rattle.codestream_model.proofs.BitLemmas.{number_bits-length}
 use Rattle.codestream_model.proofs.PackingLemmas.{last_after, carried-append}
 use Rattle.codestream_model.proofs.BytesLemmas.{sound_split}

@@ -1,13 +1,11 @@
 -- The leaves of a grid's trees: each code-block's own, and the trees that they fill.
-use Rattle.std.proofs.Common.{◌≡◌, ◌≢◌, ◌<◌, ◌≤◌, ◌⊎◌, ◌+◌, ◌*◌, ◌==◌, ◌&&◌, ◌++◌, ℕ, zero, suc, Bool, true, false, List, [], ◌∷◌, map, length, replicate, slice_index, slice_set, refl, sym, ◌∙◌, ap, subst, inl, inr, arith, if◌then◌else◌}
+use Rattle.std.proofs.Common.{◌≡◌, ◌≢◌, ◌<◌, ◌≤◌, ◌⊎◌, ◌+◌, ◌*◌, ◌++◌, ℕ, zero, suc, Bool, true, false, List, [], ◌∷◌, length, replicate, slice_index, slice_set, refl, sym, ◌∙◌, ap, subst, inl, inr, arith}
 use Rattle.std.specs.List.{AllByRecursion, filter, list_any}
 use Rattle.std.proofs.Math.Nat.{mul-le-mul_right}
 use Rattle.std.proofs.lemmas.Bool.Decides.{eqb_tells}
 use Rattle.std.proofs.lemmas.List.{get_or-replicate, length-replicate, length-set, get_or-set_other, get_or-set_same}
-use Rattle.std.proofs.lemmas.List.Elements.{filter-append}
-use Rattle.std.proofs.lemmas.List.Folds.{list_any-append}
 use Rattle.codestream_model.specs.Values as values
-use Rattle.codestream_model.specs.TagTrees.{Seat, IsSeat, seat_of, least_inclusion, least_planes}
+use Rattle.codestream_model.specs.TagTrees.{Seat, IsSeat, seat_of}
 use Rattle.codestream_model.specs.HeaderPieces.{stands_at}
 use Rattle.codestream_model.specs.PacketHeader.{is_included, IsWithinLimits}
 use Rattle.codestream_model.proofs.TreeLemmas.{either, same_number, among_all}
@@ -15,7 +13,6 @@ use Rattle.codestream_model.proofs.SeatLemmas.{all-append, all-behind, all-map, 
 use Rattle.tag_tree.specs.Grove.{Grove}
 use Rattle.tag_tree.specs.LeafWriting.{IsOn}
 use Rattle.tag_tree.proofs.LabelLemmas.{AreLeaves, each_both, holds_inclusion, holds_planes}
-use Rattle.packet_header.specs.Seats.{HasGrid}
 use Rattle.packet_header.specs.SeatsWritten.{SitsOn, leaf_place, laid, LaysOut, IsFilled, AreWritten}
 use Rattle.packet_header.specs.declared.grids.TagTrees.{TagTrees}
 

@@ -1,5 +1,5 @@
 -- A leaf of a tag tree, read where a source stands.
-use Rattle.std.proofs.Common.{◌≡◌, ◌≤◌, ◌⊎◌, ◌++◌, ℕ, zero, suc, Bool, true, false, List, [], ◌∷◌, length, take, drop, nat_le, Option, Some, None, Err, refl, sym, ◌∙◌, ap, subst, inl, inr}
+use Rattle.std.proofs.Common.{◌≡◌, ◌≤◌, ◌⊎◌, ◌++◌, ℕ, suc, Bool, true, false, List, [], ◌∷◌, length, take, drop, nat_le, Option, Some, None, Err, refl, sym, ◌∙◌, ap, subst, inl, inr}
 use Rattle.std.specs.List.{slice_range}
 use Rattle.std.proofs.lemmas.List.{take-append-drop}
 use Rattle.codestream_model.specs.StuffedBits.{packed_bits}
@@ -8,7 +8,7 @@ use Rattle.codestream_model.specs.HeaderPieces.{HeaderRefusal, ZeroPlanes}
 use Rattle.codestream_model.specs.PacketHeaderReading.{Node, Walked, Read, Got, AtEnd, Refused, and_then, unless, node_of, known_label, read_label, read_planes}
 use Rattle.stuffed_bits.specs.BitsRead.{HasRead}
 use Rattle.tag_tree.specs.Grove.{Grove}
-use Rattle.tag_tree.specs.LeafReading.{Knows, behind, none_left, IsAnswer}
+use Rattle.tag_tree.specs.LeafReading.{behind, none_left, IsAnswer}
 use Rattle.tag_tree.specs.declared.tree.TreeOut.{TreeOut}
 use Rattle.tag_tree.specs.declared.tree.TreeOut.TheVariants.{TooGreat}
 use Rattle.packet_header.specs.Standing.{Stands, left, given_by}

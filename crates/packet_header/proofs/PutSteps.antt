@@ -1,12 +1,11 @@
 -- What calls put, one call behind another.
-use Rattle.std.proofs.Common.{◌≡◌, ◌≢◌, ◌<◌, ◌≤◌, ◌-◌, ◌/◌, ◌%◌, ◌^◌, ◌==◌, ◌++◌, ℕ, zero, suc, Bool, true, false, List, [], ◌∷◌, length, drop, Result, Ok, Err, IfOk, IsErr, refl, sym, ◌∙◌, ap, subst, inl, inr, arith}
+use Rattle.std.proofs.Common.{◌≡◌, ◌≢◌, ◌≤◌, ◌-◌, ◌/◌, ◌%◌, ◌^◌, ◌==◌, ◌++◌, ℕ, zero, suc, Bool, true, false, List, [], ◌∷◌, length, Result, Ok, Err, IsErr, refl, subst, inl, inr, arith}
 use Rattle.codestream_model.specs.StuffedBits.{number_bits}
 use Rattle.codestream_model.specs.HeaderPieces.{run_of, passes_code, refine_width}
 use Rattle.std.proofs.lemmas.Bool.Decides.{eqb_tells}
 use Rattle.stuffed_bits.specs.Pen.{Pen}
 use Rattle.stuffed_bits.specs.declared.bit_writer.Full.{Full}
-use Rattle.tag_tree.specs.LeafWriting.{Writes}
-use Rattle.tag_tree.proofs.WriteLemmas.{writes_none, writes_behind, writes_no_more, writes_same, behind_both}
+use Rattle.tag_tree.proofs.WriteLemmas.{writes_none, writes_behind, writes_no_more, behind_both}
 use Rattle.packet_header.specs.Puts.{Onward, Puts, refine_tail}
 
 -- a writer that stays, and one that goes on twice
@@ -52,10 +51,7 @@ number_by_bit (suc width) v e =
     let i : suc width - 1 ≡ width = omega arith in
     rw i refl
 
--- so many ones and a zero: the zero, or a one and the rest
-pub no_ones : (ones : ℕ) → ones ≡ 0 → run_of true ones false ≡ false ∷ []
-no_ones ones e = rw e refl
-
+-- some ones and a zero: a one and the rest
 pub one_more : (ones : ℕ) → ones ≢ 0 → run_of true ones false ≡ (true ∷ []) ++ run_of true (ones - 1) false
 one_more zero e = absurd (e refl)
 one_more (suc ones) e =

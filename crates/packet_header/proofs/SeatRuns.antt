@@ -1,11 +1,11 @@
 -- The code-blocks at seats, read one behind another.
-use Rattle.std.proofs.Common.{◌≡◌, ◌<◌, ◌+◌, ℕ, zero, suc, Bool, List, [], ◌∷◌, ◌++◌, map, refl, sym, ◌∙◌, ap, subst, arith, append_assoc}
+use Rattle.std.proofs.Common.{◌≡◌, ◌<◌, ◌+◌, ℕ, zero, suc, List, [], ◌∷◌, ◌++◌, map, refl, sym, ◌∙◌, ap, subst, arith, append_assoc}
 use Rattle.std.specs.List.{range_with_len, flat_map}
 use Rattle.std.proofs.lemmas.Grind.{flat_map-append}
 use Rattle.std.proofs.lemmas.List.{append-nil, map-append}
 use Rattle.codestream_model.specs.Values as values
 use Rattle.codestream_model.specs.TagTrees.{Seat, root_level, levels_from}
-use Rattle.codestream_model.specs.PacketHeaderReading.{Read, Got, AtEnd, Refused, and_then, Node, read_seats}
+use Rattle.codestream_model.specs.PacketHeaderReading.{Read, Got, AtEnd, Refused, Node, read_seats}
 use Rattle.tag_tree.specs.Grove.{Grove}
 use Rattle.tag_tree.specs.LeafReading.{IsSameShape}
 use Rattle.packet_header.specs.Standing.{Stands, left}

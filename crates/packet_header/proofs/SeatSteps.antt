@@ -1,5 +1,5 @@
 -- The code-block at a seat, read of the bits that are left.
-use Rattle.std.proofs.Common.{◌≡◌, ◌≢◌, ◌⊎◌, ◌==◌, ℕ, Bool, true, false, List, [], ◌∷◌, ◌++◌, map, Option, Result, Ok, Err, refl, sym, ◌∙◌, ap, subst, inl, inr}
+use Rattle.std.proofs.Common.{◌≡◌, ◌≢◌, ◌==◌, ℕ, Bool, true, false, List, [], ◌∷◌, ◌++◌, Result, Ok, Err, refl, sym, ◌∙◌, ap, inl, inr}
 use Rattle.std.proofs.lemmas.Bool.Decides.{eqb_tells}
 use Rattle.std.proofs.lemmas.List.{append-nil}
 use Rattle.codestream_model.specs.Values as values
@@ -9,10 +9,10 @@ use Rattle.codestream_model.specs.PacketHeaderReading.{Read, Got, AtEnd, Refused
 use Rattle.tag_tree.specs.Grove.{Grove}
 use Rattle.tag_tree.specs.LeafReading.{Knows}
 use Rattle.packet_header.specs.Standing.{Stands, left}
-use Rattle.packet_header.specs.Answers.{why_of, stop_at, block_of, block_answer}
-use Rattle.packet_header.specs.Reads.{GoesOn, Reads}
+use Rattle.packet_header.specs.Answers.{why_of, stop_at, block_of}
+use Rattle.packet_header.specs.Reads.{Reads}
 use Rattle.packet_header.specs.Trees.{levels_of, ReadsLeaf}
-use Rattle.packet_header.specs.Seats.{KnowsBoth, HasGrid, ahead, StopsSo, SeatsRead}
+use Rattle.packet_header.specs.Seats.{HasGrid, ahead, StopsSo, SeatsRead}
 use Rattle.packet_header.specs.declared.block.Block.{Block}
 use Rattle.packet_header.specs.declared.source.Source.{Source}
 use Rattle.packet_header.specs.declared.grids.TagTrees.{TagTrees}

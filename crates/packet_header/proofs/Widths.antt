@@ -1,5 +1,5 @@
 -- How many bits the lengths of a code-block take.
-use Rattle.std.proofs.Common.{◌≡◌, ◌≢◌, ◌<◌, ◌≤◌, ◌+◌, ◌-◌, ◌*◌, ◌/◌, ◌^◌, ◌==◌, ℕ, zero, suc, Bool, true, false, max, refl, sym, ◌∙◌, ap, subst, arith, if◌then◌else◌}
+use Rattle.std.proofs.Common.{◌≡◌, ◌≢◌, ◌≤◌, ◌+◌, ◌*◌, ◌/◌, ◌^◌, ℕ, zero, suc, subst, arith}
 use Rattle.std.proofs.Math.Nat.{pow-suc}
 use Rattle.codestream_model.specs.TagTrees.{exponent}
 use Rattle.codestream_model.proofs.ExponentLemmas.{exponent_is_least}

@@ -1,5 +1,5 @@
 -- What is answered where the bits of a header are closed.
-use Rattle.std.specs.Prelude.{◌≡◌, ◌+◌, ◌-◌, ◌==◌, ◌&&◌, ℕ, List, Result, Ok, Err, length, slice_index, nat_lt, if◌then◌else◌}
+use Rattle.std.specs.Prelude.{◌+◌, ◌-◌, ◌==◌, ◌&&◌, ℕ, List, Result, Ok, Err, length, slice_index, nat_lt, if◌then◌else◌}
 use Rattle.codestream_model.specs.StuffedBits.{packed_bits, bytes_of_bits}
 use Rattle.packet_header.specs.Standing.{given_by}
 use Rattle.packet_header.specs.declared.source.Source.{Source}

@@ -1,5 +1,5 @@
 -- Code-blocks that wait for their seats.
-use Rattle.std.specs.Prelude.{◌≡◌, Bool, true, false, List, [], ◌∷◌, map, drop, Option, Some, None, if◌then◌else◌}
+use Rattle.std.specs.Prelude.{◌≡◌, true, false, List, [], ◌∷◌, map, drop, Option, Some, None, if◌then◌else◌}
 use Rattle.codestream_model.specs.Values as values
 use Rattle.codestream_model.specs.TagTrees.{Seat}
 use Rattle.codestream_model.specs.HeaderPieces.{stands_at}

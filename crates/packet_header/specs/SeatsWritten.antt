@@ -1,5 +1,5 @@
 -- What is put of the code-blocks of a header, seat by seat and grid by grid.
-use Rattle.std.specs.Prelude.{◌≡◌, ◌<◌, ◌+◌, ◌*◌, ◌==◌, ◌++◌, ℕ, Bool, false, List, [], ◌∷◌, map, length, slice_index, slice_set, Result, IfOk, if◌then◌else◌}
+use Rattle.std.specs.Prelude.{◌≡◌, ◌+◌, ◌*◌, ◌==◌, ◌++◌, ℕ, Bool, false, List, [], ◌∷◌, map, length, slice_index, slice_set, Result, IfOk, if◌then◌else◌}
 use Rattle.std.specs.List.{AllByRecursion, filter, flat_map}
 use Rattle.codestream_model.specs.Values as values
 use Rattle.codestream_model.specs.TagTrees.{Seat, IsSeat, seats, seat_of, least_inclusion, least_planes}
@@ -9,7 +9,6 @@ use Rattle.stuffed_bits.specs.Pen.{Pen}
 use Rattle.stuffed_bits.specs.declared.bit_writer.Full.{Full}
 use Rattle.tag_tree.specs.Grove.{Grove}
 use Rattle.tag_tree.specs.LeafWriting.{Holds, HoldsLeast, HasMet, Writes}
-use Rattle.packet_header.specs.Seats.{HasGrid}
 use Rattle.packet_header.specs.Puts.{Fills}
 use Rattle.packet_header.specs.declared.fault.PutFault.{PutFault}
 use Rattle.packet_header.specs.declared.grids.TagTrees.{TagTrees}

@@ -1,5 +1,5 @@
 -- Where a reader stands in the bits of bytes.
-use Rattle.std.specs.Prelude.{◌≡◌, ◌≤◌, ◌-◌, ℕ, Bool, List, length, take, drop}
+use Rattle.std.specs.Prelude.{◌≤◌, ◌-◌, ℕ, Bool, List, length, take, drop}
 use Rattle.codestream_model.specs.StuffedBits.{carried, packed_bits}
 use Rattle.stuffed_bits.specs.Hand.{Hand}
 use Rattle.stuffed_bits.specs.BitsRead.{HasRead}

@@ -79,12 +79,7 @@ fn lblock_of(block: &Block) -> u8
 }
 
 /// Puts the length of a refinement segment; with one pass there is none.
-fn put_refine(
-    block: &Block,
-    lblock: u8,
-    bits: &mut BitWriter,
-    buf: &mut [u8],
-) -> Result<(), Full>
+fn put_refine(block: &Block, lblock: u8, bits: &mut BitWriter, buf: &mut [u8]) -> Result<(), Full>
     requires low { lblock ≤ 24 }
     requires inside { bits.old.len ≤ length buf.old }
     ensures { Puts (refine_tail block.now.passes lblock block.now.refine) bits.old bits.new buf.old buf.new result }

@@ -2,7 +2,8 @@
 //! coding passes each has, and how many bytes their segments take.
 //!
 //! `HeaderReader` reads the header at the front of bytes. A header is as long as it says itself: it ends where the last
-//! code-block's values do, filled up to a whole byte.
+//! code-block's values do, filled up to a whole byte. `write_header` writes the header of code-blocks: of all headers that say them
+//! the one with the least labels in its tag trees and the least Lblocks.
 #![tactic(auto)]
 
 mod block;

@@ -434,12 +434,7 @@ fn code_blocks_that_no_packet_includes_are_refused(rt: HostRuntime) -> Result<()
 }
 
 /// Adds the code-blocks of a grid, all included.
-fn include_all(
-    blocks: &mut Vec<Block>,
-    band: u8,
-    cols: u32,
-    rows: u32,
-) -> Result<(), AllocError> {
+fn include_all(blocks: &mut Vec<Block>, band: u8, cols: u32, rows: u32) -> Result<(), AllocError> {
     for row in 0..rows {
         for col in 0..cols {
             blocks.push(Block {
@@ -533,7 +528,10 @@ fn a_header_of_65_536_bytes_is_the_longest_that_is_read(rt: HostRuntime) -> Resu
     let longest = HeaderOut::Done(65_536);
     assert_eq!(rt; read_front(rt.alloc(), &bands, &buf, 70_000)?, longest);
     assert_eq!(rt; read_front(rt.alloc(), &bands, &buf, 65_536)?, longest);
-    assert_eq!(rt; read_front(rt.alloc(), &bands, &buf, 65_535)?, HeaderOut::Need);
+    assert_eq!(rt;
+        read_front(rt.alloc(), &bands, &buf, 65_535)?,
+        HeaderOut::Need
+    );
     Ok(())
 }
 
@@ -545,6 +543,9 @@ fn a_header_of_65_537_bytes_is_written_and_not_read(rt: HostRuntime) -> Result<(
     let too_long = HeaderOut::Bad(HeaderWhy::TooLong);
     assert_eq!(rt; read_front(rt.alloc(), &bands, &buf, 70_000)?, too_long);
     assert_eq!(rt; read_front(rt.alloc(), &bands, &buf, 65_536)?, too_long);
-    assert_eq!(rt; read_front(rt.alloc(), &bands, &buf, 65_535)?, HeaderOut::Need);
+    assert_eq!(rt;
+        read_front(rt.alloc(), &bands, &buf, 65_535)?,
+        HeaderOut::Need
+    );
     Ok(())
 }

@@ -27,12 +27,7 @@ use stuffed_bits::{BitWriter, Full};
 
 impl TagTrees {
     /// Puts an included code-block: its zero bit-planes and its values.
-    fn put_block(
-        &mut self,
-        block: &Block,
-        bits: &mut BitWriter,
-        buf: &mut [u8],
-    ) -> Result<(), Full>
+    fn put_block(&mut self, block: &Block, bits: &mut BitWriter, buf: &mut [u8]) -> Result<(), Full>
         requires limits { IsWithinLimits (block_of block.now) }
         requires col_in { block.now.col < self.old.planes.cols }
         requires row_in { block.now.row < self.old.planes.rows }

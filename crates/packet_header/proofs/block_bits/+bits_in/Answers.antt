@@ -1,5 +1,5 @@
 -- Bit by bit.
-use Rattle.std.proofs.Common.{◌≡◌, ◌≤◌, ◌+◌, ◌/◌, ◌^◌, ℕ, refl, sym, ◌∙◌, ap, subst, arith}
+use Rattle.std.proofs.Common.{◌≡◌, ◌≤◌, ◌+◌, ℕ, sym, ◌∙◌, ap, subst, arith}
 use Rattle.codestream_model.specs.TagTrees.{exponent}
 use Rattle.packet_header.proofs.Widths.{bits_of_half, bits_of_none, bits_within}
 use Rattle.packet_header.proofs.block_bits.+bits_in.Goals as goal

@@ -1,5 +1,5 @@
 -- The greatest bit, and the rest.
-use Rattle.std.proofs.Common.{◌-◌, ◌/◌, ◌%◌, ◌^◌, ◌==◌, ◌++◌, Bool, List, [], ◌∷◌, sym}
+use Rattle.std.proofs.Common.{◌-◌, ◌/◌, ◌%◌, ◌^◌, ◌==◌, ◌++◌, [], ◌∷◌, sym}
 use Rattle.codestream_model.specs.StuffedBits.{number_bits}
 use Rattle.packet_header.proofs.PutSteps.{puts_none, puts_behind, puts_no_more, puts_same, no_number, number_by_bit}
 use Rattle.packet_header.proofs.block_bits.+put_number.Goals as goal

@@ -1,5 +1,5 @@
 -- A one, and the rest.
-use Rattle.std.proofs.Common.{◌-◌, ◌++◌, Bool, true, false, List, [], ◌∷◌, sym}
+use Rattle.std.proofs.Common.{◌-◌, ◌++◌, true, false, [], ◌∷◌, sym}
 use Rattle.codestream_model.specs.HeaderPieces.{run_of}
 use Rattle.packet_header.proofs.PutSteps.{puts_behind, puts_no_more, puts_same, one_more}
 use Rattle.packet_header.proofs.block_bits.+put_ones.Goals as goal

@@ -1,5 +1,5 @@
 -- The greatest of the least.
-use Rattle.std.proofs.Common.{◌≡◌, ◌≤◌, ◌+◌, ◌-◌, ◌==◌, ℕ, max, ap, ◌∙◌, sym, arith, if◌then◌else◌}
+use Rattle.std.proofs.Common.{◌≡◌, ◌≤◌, ◌+◌, ◌-◌, ℕ, max, ap, ◌∙◌, arith}
 use Rattle.codestream_model.specs.TagTrees.{exponent}
 use Rattle.codestream_model.specs.PacketHeader.{least_lblock}
 use Rattle.codestream_model.proofs.WrittenLemmas.{lblock_fits}

@@ -1,5 +1,5 @@
 -- The code of each number of passes.
-use Rattle.std.proofs.Common.{◌≡◌, ◌≤◌, ℕ, List, ◌∙◌, ap, sym, arith}
+use Rattle.std.proofs.Common.{◌≡◌, ◌∙◌, ap, sym, arith}
 use Rattle.codestream_model.specs.StuffedBits.{number_bits}
 use Rattle.codestream_model.specs.HeaderPieces.{passes_code}
 use Rattle.packet_header.proofs.PutSteps.{puts_same, one_pass, two_passes, three_passes}

@@ -1,5 +1,5 @@
 -- One value behind another.
-use Rattle.std.proofs.Common.{◌≡◌, ◌-◌, ◌++◌, ℕ, Bool, true, false, List, ap}
+use Rattle.std.proofs.Common.{◌-◌, ◌++◌, ℕ, true, false, ap}
 use Rattle.codestream_model.specs.StuffedBits.{number_bits}
 use Rattle.codestream_model.specs.HeaderPieces.{passes_code, run_of}
 use Rattle.codestream_model.specs.PacketHeader.{least_lblock}

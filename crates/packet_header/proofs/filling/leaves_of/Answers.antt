@@ -1,5 +1,5 @@
 -- The leaves of one code-block more.
-use Rattle.std.proofs.Common.{◌≡◌, ◌<◌, ◌+◌, ◌*◌, ◌++◌, ℕ, suc, List, [], ◌∷◌, map, take, drop, length, get_or, drop-cons, refl, sym, ◌∙◌, ap, subst, arith}
+use Rattle.std.proofs.Common.{◌≡◌, ◌<◌, ◌+◌, ◌++◌, ℕ, suc, List, [], ◌∷◌, map, take, drop, length, get_or, drop-cons, sym, ◌∙◌, ap, subst}
 use Rattle.std.proofs.lemmas.List.{take_more, take-append-drop, map-append}
 use Rattle.codestream_model.specs.Values as values
 use Rattle.codestream_model.specs.TagTrees.{IsSeat, seat_of}

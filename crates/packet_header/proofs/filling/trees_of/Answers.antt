@@ -1,5 +1,5 @@
 -- Both trees are filled.
-use Rattle.std.proofs.Common.{◌≡◌, ℕ, List, map, subst}
+use Rattle.std.proofs.Common.{ℕ, List, map, subst}
 use Rattle.precinct_geometry.specs.Spans.{grid_of}
 use Rattle.packet_header.specs.Answers.{block_of}
 use Rattle.packet_header.specs.SeatsWritten.{IsFilled}

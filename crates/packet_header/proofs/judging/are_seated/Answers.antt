@@ -1,5 +1,5 @@
 -- One grid more.
-use Rattle.std.proofs.Common.{◌≡◌, ◌+◌, ◌++◌, List, [], ◌∷◌, map, drop, get_or, sym, ◌∙◌, ap}
+use Rattle.std.proofs.Common.{◌≡◌, ◌+◌, List, ◌∷◌, map, drop, get_or, sym, ◌∙◌, ap}
 use Rattle.std.specs.List.{flat_map}
 use Rattle.codestream_model.specs.Values as values
 use Rattle.codestream_model.specs.TagTrees.{seats}

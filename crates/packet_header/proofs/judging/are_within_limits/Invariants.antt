@@ -1,5 +1,5 @@
 -- The code-blocks before this one are within their limits.
-use Rattle.std.proofs.Common.{◌≡◌, map, take}
+use Rattle.std.proofs.Common.{map, take}
 use Rattle.std.specs.List.{AllByRecursion}
 use Rattle.codestream_model.specs.PacketHeader.{IsWithinLimits}
 use Rattle.packet_header.specs.Answers.{block_of}

@@ -1,5 +1,5 @@
 -- One row more.
-use Rattle.std.proofs.Common.{◌≡◌, ◌+◌, ◌++◌, List, sym, ◌∙◌, ap}
+use Rattle.std.proofs.Common.{List, sym, ◌∙◌, ap}
 use Rattle.codestream_model.specs.TagTrees.{Seat}
 use Rattle.packet_header.specs.Seats.{row_seats}
 use Rattle.packet_header.specs.Queues.{waiting, passed}

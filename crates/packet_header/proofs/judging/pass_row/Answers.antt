@@ -1,6 +1,5 @@
 -- One seat more.
-use Rattle.std.proofs.Common.{◌≡◌, ◌+◌, ◌++◌, List, [], ◌∷◌, sym, ◌∙◌, ap}
-use Rattle.codestream_model.specs.Values as values
+use Rattle.std.proofs.Common.{List, [], ◌∷◌, sym, ◌∙◌, ap}
 use Rattle.codestream_model.specs.TagTrees.{Seat}
 use Rattle.packet_header.specs.Seats.{row_seats}
 use Rattle.packet_header.specs.Queues.{waiting, left_at, passed}

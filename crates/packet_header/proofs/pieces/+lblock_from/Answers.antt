@@ -1,5 +1,5 @@
 -- Lblock, bit by bit.
-use Rattle.std.proofs.Common.{◌≡◌, true, false, Ok, refl, ◌∙◌, ap, nat_le, arith}
+use Rattle.std.proofs.Common.{◌≡◌, true, false, Ok, refl, ◌∙◌, ap, nat_le}
 use Rattle.std.proofs.lemmas.Bool.{le-leb, lt-leb}
 use Rattle.std.proofs.lemmas.Result.{err_from_is_err_and}
 use Rattle.packet_header.proofs.Chains.{stays, reads_on, reads_stop, lblock_by, lblock_by_bits}

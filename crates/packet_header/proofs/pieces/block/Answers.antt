@@ -1,8 +1,7 @@
 -- The values of a code-block, one after another.
-use Rattle.std.proofs.Common.{◌≡◌, ℕ, List, Bool, Ok, refl, sym}
+use Rattle.std.proofs.Common.{refl}
 use Rattle.std.proofs.lemmas.Result.{err_from_is_err_and}
 use Rattle.codestream_model.specs.TagTrees.{Seat}
-use Rattle.packet_header.specs.Standing.{Stands}
 use Rattle.packet_header.proofs.Chains.{stays, reads_on, reads_stop}
 use Rattle.packet_header.proofs.BlockParts.{by_passes, by_lblock, by_cleanup, by_refine, block_by_parts}
 use Rattle.packet_header.proofs.pieces.block.Goals as goal

@@ -1,7 +1,6 @@
 -- The number of passes, bit by bit.
-use Rattle.std.proofs.Common.{◌≡◌, true, false, Ok, refl, ◌∙◌, ap, rules}
+use Rattle.std.proofs.Common.{◌≡◌, true, false, Ok, refl, ◌∙◌, ap}
 use Rattle.std.proofs.lemmas.Result.{err_from_is_err_and}
-use Rattle.packet_header.specs.Standing.{left}
 use Rattle.packet_header.proofs.Chains.{stays, reads_on, reads_stop, passes_by_bits, by_first, by_second, by_third, by_fourth, third_refuses, fourth_refuses}
 use Rattle.packet_header.proofs.pieces.passes.Goals as goal
 use Rattle.packet_header.proofs.pieces.passes.Goals.{then-third-via-then-third, then-third-via-else-third+then-fourth}

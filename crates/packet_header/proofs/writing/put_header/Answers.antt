@@ -1,5 +1,5 @@
 -- The first bit, and the grids.
-use Rattle.std.proofs.Common.{◌≡◌, ◌≢◌, ◌++◌, ℕ, Bool, true, false, List, [], ◌∷◌, map, length, Ok, ap, ◌∙◌, sym, arith}
+use Rattle.std.proofs.Common.{◌++◌, true, [], ◌∷◌, map}
 use Rattle.precinct_geometry.specs.Spans.{grid_of}
 use Rattle.codestream_model.specs.PacketHeader.{written_bits}
 use Rattle.packet_header.specs.Answers.{block_of}

@@ -1,5 +1,5 @@
 -- The header that was put is closed.
-use Rattle.std.proofs.Common.{◌≡◌, ◌<◌, ◌≤◌, ◌++◌, ℕ, Bool, List, [], map, length, take, drop, Ok, Err, refl, sym, ◌∙◌, ap, subst, arith}
+use Rattle.std.proofs.Common.{◌≡◌, ◌<◌, ℕ, List, map, length, take, Err, refl, sym, ◌∙◌, subst}
 use Rattle.std.proofs.lemmas.Result.{err_from_is_err_and}
 use Rattle.codestream_model.specs.StuffedBits.{packing}
 use Rattle.codestream_model.specs.PacketHeader.{HaveOwnBands, SpellsHeader, written_bits, written_header}

@@ -1,5 +1,4 @@
 -- The zero bit-planes, and then the values.
-use Rattle.std.proofs.Common.{◌≡◌, ◌++◌, Bool, List, refl}
 use Rattle.codestream_model.specs.TagTrees.{Seat}
 use Rattle.codestream_model.specs.PacketHeader.{least_lblock}
 use Rattle.tag_tree.specs.LeafWriting.{grid_of, leaf_bits, value_step}

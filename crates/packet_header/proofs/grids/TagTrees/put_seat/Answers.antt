@@ -1,7 +1,6 @@
 -- A seat is left out, or its code-block is put.
-use Rattle.std.proofs.Common.{◌≡◌, ◌++◌, ℕ, Bool, List, [], ◌∷◌, Ok, IfOk, refl, sym, ◌∙◌, ap, subst}
+use Rattle.std.proofs.Common.{◌≡◌, ◌++◌, Bool, List, [], ◌∷◌, refl, sym, subst}
 use Rattle.std.specs.List.{filter}
-use Rattle.codestream_model.specs.Values as values
 use Rattle.codestream_model.specs.TagTrees.{Seat, seat_of, least_inclusion, least_planes}
 use Rattle.codestream_model.specs.PacketHeader.{is_included, least_lblock}
 use Rattle.precinct_geometry.specs.Spans.{grid_of}
@@ -12,7 +11,7 @@ use Rattle.tag_tree.proofs.WriteLemmas.{writes_behind}
 use Rattle.packet_header.specs.Answers.{block_of}
 use Rattle.packet_header.specs.Queues.{waiting}
 use Rattle.packet_header.specs.Puts.{value_bits}
-use Rattle.packet_header.specs.SeatsWritten.{AreWritten, SeatsPut}
+use Rattle.packet_header.specs.SeatsWritten.{AreWritten}
 use Rattle.packet_header.specs.declared.grids.TagTrees.{TagTrees}
 use Rattle.packet_header.proofs.PutSteps.{goes_both}
 use Rattle.packet_header.proofs.SeatWalks.{seat_there}

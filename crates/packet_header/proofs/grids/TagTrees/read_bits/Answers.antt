@@ -1,5 +1,5 @@
 -- The first bit, and then the grids.
-use Rattle.std.proofs.Common.{◌≡◌, List, map, refl}
+use Rattle.std.proofs.Common.{map, refl}
 use Rattle.std.proofs.lemmas.Result.{err_from_is_err_and}
 use Rattle.precinct_geometry.specs.Spans.{grid_of}
 use Rattle.packet_header.specs.Standing.{left}

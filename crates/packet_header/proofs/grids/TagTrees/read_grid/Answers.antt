@@ -1,12 +1,11 @@
 -- The rows of a grid, one after another.
-use Rattle.std.proofs.Common.{◌≡◌, ◌≤◌, ◌+◌, ◌*◌, ◌++◌, ℕ, List, [], vec_len, refl, sym, ◌∙◌, ap, subst, arith}
+use Rattle.std.proofs.Common.{◌≡◌, ◌++◌, ℕ, List, [], ◌∙◌, subst, arith}
 use Rattle.std.proofs.lemmas.Result.{err_from_is_err_and}
-use Rattle.codestream_model.specs.TagTrees.{Seat, root_level, levels_from, seats}
+use Rattle.codestream_model.specs.TagTrees.{root_level, levels_from, seats}
 use Rattle.codestream_model.specs.PacketHeaderReading.{Node, read_seats}
 use Rattle.precinct_geometry.specs.Spans.{grid_of}
 use Rattle.packet_header.specs.Standing.{left}
-use Rattle.packet_header.specs.Trees.{levels_of}
-use Rattle.packet_header.specs.Seats.{KnowsBoth, row_seats, StopsSo, SeatsRead, BlocksRead}
+use Rattle.packet_header.specs.Seats.{KnowsBoth, row_seats, StopsSo, SeatsRead}
 use Rattle.packet_header.proofs.SeatRuns.{grid_kept, seats_join, seats_stop, rows_of, rows_at, rows_more, grid_levels, grid_read, grid_stops}
 use Rattle.packet_header.proofs.grids.TagTrees.read_grid.Goals as goal
 

@@ -1,5 +1,5 @@
 -- The rows before this one are read.
-use Rattle.std.proofs.Common.{◌≡◌, ◌≤◌, ◌+◌, ◌*◌, List, [], vec_len}
+use Rattle.std.proofs.Common.{◌≡◌, ◌≤◌, ◌+◌, ◌*◌, [], vec_len}
 use Rattle.std.specs.Vec.{vec_capacity}
 use Rattle.codestream_model.specs.TagTrees.{root_level, levels_from}
 use Rattle.precinct_geometry.specs.Spans.{grid_of}

@@ -1,5 +1,5 @@
 -- The bits of a header, and what closes them.
-use Rattle.std.proofs.Common.{List, map, refl}
+use Rattle.std.proofs.Common.{map}
 use Rattle.std.proofs.lemmas.Result.{err_from_is_err_and}
 use Rattle.precinct_geometry.specs.Spans.{grid_of}
 use Rattle.packet_header.proofs.HeaderRuns.{some_given, header_read, header_stops}

@@ -1,12 +1,12 @@
 -- The seats of a row, one after another.
-use Rattle.std.proofs.Common.{◌≡◌, ◌+◌, ◌++◌, ℕ, List, [], ◌∷◌, length, vec_len, refl, sym, ◌∙◌, ap, subst, arith}
+use Rattle.std.proofs.Common.{◌≡◌, ◌++◌, ℕ, List, [], ◌∷◌, refl, ◌∙◌, subst, arith}
 use Rattle.std.proofs.lemmas.Result.{err_from_is_err_and}
 use Rattle.codestream_model.specs.TagTrees.{Seat}
 use Rattle.codestream_model.specs.PacketHeaderReading.{Node, read_seats}
 use Rattle.packet_header.specs.Standing.{left}
 use Rattle.packet_header.specs.Trees.{levels_of}
 use Rattle.packet_header.specs.Seats.{KnowsBoth, row_seats, StopsSo, SeatsRead}
-use Rattle.packet_header.proofs.SeatRuns.{shape_kept, same_shape, levels_kept, grid_kept, none_read, seats_join, seats_stop, row_at, row_more}
+use Rattle.packet_header.proofs.SeatRuns.{shape_kept, same_shape, levels_kept, none_read, seats_join, seats_stop, row_at, row_more}
 use Rattle.packet_header.proofs.grids.TagTrees.read_row.Goals as goal
 
 pub loop-col-init : goal.loop-col-init

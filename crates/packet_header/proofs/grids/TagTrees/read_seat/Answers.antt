@@ -1,14 +1,12 @@
 -- A code-block is left out, or read part by part.
-use Rattle.std.proofs.Common.{◌≡◌, ◌+◌, ◌++◌, ℕ, List, [], ◌∷◌, length, vec_len, Ok, Err, refl, sym, ◌∙◌, ap, subst, arith}
+use Rattle.std.proofs.Common.{◌≡◌, ℕ, List, Err, ap, subst}
 use Rattle.std.proofs.lemmas.Result.{err_from_is_err_and}
-use Rattle.codestream_model.specs.TagTrees.{Seat, root_level, levels_from}
-use Rattle.codestream_model.specs.PacketHeaderReading.{Node, read_inclusion, read_planes, read_block}
-use Rattle.packet_header.specs.Standing.{Stands, left}
+use Rattle.codestream_model.specs.TagTrees.{Seat}
+use Rattle.codestream_model.specs.PacketHeaderReading.{read_inclusion, read_planes, read_block}
+use Rattle.packet_header.specs.Standing.{left}
 use Rattle.packet_header.specs.Answers.{block_of, block_answer}
 use Rattle.packet_header.specs.Trees.{levels_of, ReadsLeaf}
-use Rattle.packet_header.specs.Seats.{KnowsBoth, SeatsRead}
-use Rattle.packet_header.specs.declared.block.Block.{Block}
-use Rattle.packet_header.proofs.SeatSteps.{LeafWent, leaf_went, Went, went, stops_at_inclusion, left_out, stops_at_planes, stops_at_block, kept, planes_levels}
+use Rattle.packet_header.proofs.SeatSteps.{leaf_went, went, stops_at_inclusion, left_out, stops_at_planes, stops_at_block, kept, planes_levels}
 use Rattle.packet_header.proofs.grids.TagTrees.read_seat.Goals as goal
 
 pub returns-in_err-label-clause-read : goal.returns-in_err-label-clause-read

@@ -1,5 +1,5 @@
 -- None is left where all were taken.
-use Rattle.std.proofs.Common.{◌≤◌, length}
+use Rattle.std.proofs.Common.{length}
 use Rattle.std.proofs.lemmas.Bool.{leb-true, le-leb}
 use Rattle.packet_header.specs.Answers.{block_of}
 use Rattle.packet_header.proofs.SeatWalks.{none_left, all_left}

@@ -1,5 +1,5 @@
 -- The answer is that of the first 65,536 bytes, and so says what they spell.
-use Rattle.std.proofs.Common.{◌≡◌, ◌∷◌, ℕ, List, [], map, length, take, Result, refl, sym, ◌∙◌, ap, subst, arith}
+use Rattle.std.proofs.Common.{ℕ, List, [], map, length, take, ◌∙◌, ap, subst, arith}
 use Rattle.codestream_model.specs.StuffedBits.{packed_bits}
 use Rattle.codestream_model.specs.PacketHeaderReading.{header_of, read_bits}
 use Rattle.codestream_model.proofs.SoundLemmas.{header_sound}

@@ -1,7 +1,6 @@
 -- The bits are closed, or a byte is wanted, or one breaks the stuffing.
-use Rattle.std.proofs.Common.{◌≡◌, Err, sym, ◌∙◌, ap}
+use Rattle.std.proofs.Common.{sym, ◌∙◌}
 use Rattle.std.proofs.lemmas.Result.{err_from_is_err_and}
-use Rattle.packet_header.specs.Closing.{closes}
 use Rattle.packet_header.proofs.Closings.{begun, closes_by, closed_ok, closed_err}
 use Rattle.packet_header.proofs.source.Source.close.Goals as goal
 
