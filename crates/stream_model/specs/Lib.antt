@@ -14,3 +14,4 @@ pub mod Reading
 pub mod ReceiverLaws
 pub mod CommandLaws
 pub mod CutLaws
+pub mod RunLaws
