@@ -48,3 +48,4 @@ pub mod RunHanded
 pub mod RunBegun
 pub mod RunStream
 pub mod RunLaws
+pub mod InOrderReceived

@@ -15,3 +15,4 @@ pub mod ReceiverLaws
 pub mod CommandLaws
 pub mod CutLaws
 pub mod RunLaws
+pub mod StreamLaws

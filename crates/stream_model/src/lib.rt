@@ -27,4 +27,4 @@ pub use laws::{
 pub use receiver_laws::{
     each_frame_is_counted_once, found_is_what_stands, malformed_frames_are_counted_alone,
 };
-pub use run_laws::runs_give_what_is_reached;
+pub use run_laws::{in_order_gives_all, runs_give_what_is_reached};
