@@ -64,7 +64,7 @@ stamp_fits : (p : Plan) (i : ℕ) → stamp_at p i < 2 ^ 32
 stamp_fits p i = omega arith
 
 -- and each codestream is carried
-marks_placed : (bodies : List Datagram) → marks bodies ≡ flat_map (λ ms. ms) (placed (λ x. length x.codestream) (λ j at x. mark_of j at x.payload) 0 0 bodies)
+pub marks_placed : (bodies : List Datagram) → marks bodies ≡ flat_map (λ ms. ms) (placed (λ x. length x.codestream) (λ j at x. mark_of j at x.payload) 0 0 bodies)
 marks_placed bodies =
     sym (flat_map-map (λ ms. ms) (λ x. mark_of x.0 (payload_start bodies x.0) x.1.payload) (enumerate_from 0 bodies))
     ∙ ap (λ ys. flat_map (λ ms. ms) ys) (are_placed (λ x. length x.codestream) (λ j at x. mark_of j at x.payload) bodies)

@@ -29,7 +29,7 @@ packet_has_bytes h p x b r =
     let all : length b ≡ length r.header + length x.bytes = ap (λ ys. length ys) r.whole ∙ length-append r.header x.bytes in
     omega arith
 
-packets_have_bytes : (h : Head) (places : List Place) (content : List Content) (packets : List (List ℕ)) → ArePackets h places content packets → AllByRecursion (λ b. 1 ≤ length b) packets
+pub packets_have_bytes : (h : Head) (places : List Place) (content : List Content) (packets : List (List ℕ)) → ArePackets h places content packets → AllByRecursion (λ b. 1 ≤ length b) packets
 packets_have_bytes h [] [] [] r = tt
 packets_have_bytes h [] [] (b ∷ packets) r = absurd r
 packets_have_bytes h [] (x ∷ content) packets r = absurd r
@@ -38,7 +38,7 @@ packets_have_bytes h (p ∷ places) (x ∷ content) [] r = absurd r
 packets_have_bytes h (p ∷ places) (x ∷ content) (b ∷ packets) r = (packet_has_bytes h p x b r.0, packets_have_bytes h places content packets r.1)
 
 -- so the place of a packet is below that of each later one
-starts_rise : (packets : List (List ℕ)) (j k : ℕ) → AllByRecursion (λ b. 1 ≤ length b) packets → j < k → k ≤ length packets → sum_by (λ b. length b) (take j packets) < sum_by (λ b. length b) (take k packets)
+pub starts_rise : (packets : List (List ℕ)) (j k : ℕ) → AllByRecursion (λ b. 1 ≤ length b) packets → j < k → k ≤ length packets → sum_by (λ b. length b) (take j packets) < sum_by (λ b. length b) (take k packets)
 starts_rise [] j zero h less most = absurd (omega arith)
 starts_rise [] j (suc k) h less most = absurd (omega arith)
 starts_rise (b ∷ packets) j zero h less most = absurd (omega arith)

@@ -38,3 +38,14 @@ pub mod GrownPieces
 pub mod GrownBodies
 pub mod GrownDatagrams
 pub mod ClosedGrown
+pub mod RunRules
+pub mod RunMarks
+pub mod RunPlaces
+pub mod RunReach
+pub mod RunStates
+pub mod RunSteps
+pub mod RunHanded
+pub mod RunBegun
+pub mod RunStream
+pub mod RunLaws
+pub mod InOrderReceived

@@ -86,7 +86,7 @@ other_found h p bytes (some, inr (few, inr t)) =
     found_by h p bytes (Done (length t.header) t.blocks) some few (begun (grids h p) bytes t.header t.rest t.blocks (own_bands h p) t.begins) ∙ rw long refl
 
 -- what stands there is found
-stands_found : (h : Head) (p : Place) (bytes : List ℕ) (f : Found) → FoundIs h p bytes f → found_packet h p bytes ≡ f
+pub stands_found : (h : Head) (p : Place) (bytes : List ℕ) (f : Found) → FoundIs h p bytes f → found_packet h p bytes ≡ f
 unfolding found_packet
 stands_found h p bytes (Whole blocks header size) (x, packet, more, s, e, b, n, m) =
     ap (found_packet h p) e ∙ (packet_found h p x packet more s ∙ rw (b, n, m) refl)

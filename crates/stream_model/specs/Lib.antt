@@ -14,3 +14,5 @@ pub mod Reading
 pub mod ReceiverLaws
 pub mod CommandLaws
 pub mod CutLaws
+pub mod RunLaws
+pub mod StreamLaws

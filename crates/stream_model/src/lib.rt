@@ -9,6 +9,7 @@ mod command_laws;
 mod cut_laws;
 mod laws;
 mod receiver_laws;
+mod run_laws;
 
 pub use command_laws::{
     parse_writes_inputs, parse_writes_up_to_fault, parse_writes_whole_packets,
@@ -26,3 +27,4 @@ pub use laws::{
 pub use receiver_laws::{
     each_frame_is_counted_once, found_is_what_stands, malformed_frames_are_counted_alone,
 };
+pub use run_laws::{in_order_gives_all, runs_give_what_is_reached};
