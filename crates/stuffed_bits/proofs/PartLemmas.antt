@@ -16,7 +16,7 @@ use Rattle.stuffed_bits.proofs.StandLemmas.{before_last, last_of-push, none_begu
 use Rattle.stuffed_bits.proofs.ReadLemmas.{byte_next, byte_of_piece, range_one, took}
 
 -- the bits of a number, in two parts
-split_bits : (j k v : ℕ) → number_bits (k + j) v ≡ number_bits k (v / 2 ^ j) ++ number_bits j v
+pub split_bits : (j k v : ℕ) → number_bits (k + j) v ≡ number_bits k (v / 2 ^ j) ++ number_bits j v
 unfolding number_bits
 split_bits j zero v = let z : 0 + j ≡ j = omega arith in rw z refl
 split_bits j (suc k) v =
@@ -28,7 +28,7 @@ split_bits j (suc k) v =
     rw s (ap (λ (l : List Bool). (v / 2 ^ (k + j) % 2 == 1) ∷ l) (split_bits j k v) ∙ ap (λ (b : Bool). b ∷ (number_bits k (v / 2 ^ j) ++ number_bits j v)) h)
 
 -- what a number has above so many bits
-above : (c x y : ℕ) → number_bits c (x * 2 ^ c + y) ≡ number_bits c y
+pub above : (c x y : ℕ) → number_bits c (x * 2 ^ c + y) ≡ number_bits c y
 above c x y = let z : c + 0 ≡ c = omega arith in ap (λ (n : ℕ). number_bits c (x * 2 ^ n + y)) (sym z) ∙ higher_bits c 0 x y
 
 -- a number of so many bits, and another behind it

@@ -69,17 +69,39 @@ bits_behind bits bytes more h r =
     let behind = number_bits h.left last ++ carried_after last (sound_after last more) in
     ap (drop (length bits)) (bits_of_all bits bytes more h r) ∙ drop_at bits behind (length bits) refl
 
+-- the bits that bytes and a piece carry, where so many of them were read
+pub bits_through : (bits front : List Bool) (bytes piece : List ℕ) (at end : ℕ) (h : Hand) → at ≤ end → HasRead (bits ++ front) (bytes ++ slice_range piece at end) h
+    → (rest : List Bool) × ((packed_bits (bytes ++ drop at piece)).bits ≡ bits ++ (front ++ rest))
+bits_through bits front bytes piece at end h onward r =
+    let last = before_next h.last in
+    let rest = number_bits h.left last ++ carried_after last (sound_after last (drop end piece)) in (
+      rest,
+      ap (λ (l : List ℕ). (packed_bits l).bits) (sym (range_and_rest bytes piece at end onward))
+          ∙ (bits_of_all (bits ++ front) (bytes ++ slice_range piece at end) (drop end piece) h r ∙ append_assoc bits front rest),
+    )
+
+-- those behind the ones that were read before
+pub front_behind : (bits front : List Bool) (bytes piece : List ℕ) (at end : ℕ) (h : Hand) → at ≤ end → HasRead (bits ++ front) (bytes ++ slice_range piece at end) h
+    → (rest : List Bool) × (drop (length bits) (packed_bits (bytes ++ drop at piece)).bits ≡ front ++ rest)
+front_behind bits front bytes piece at end h onward r =
+    let t = bits_through bits front bytes piece at end h onward r in
+    (t.0, ap (drop (length bits)) t.1 ∙ drop_at bits (front ++ t.0) (length bits) refl)
+
+-- and no others, where none is left
+pub no_more_behind : (bits front : List Bool) (bytes piece : List ℕ) (at end : ℕ) (h : Hand) → at ≤ end → HasRead (bits ++ front) (bytes ++ slice_range piece at end) h
+    → drop (length (bits ++ front)) (packed_bits (bytes ++ drop at piece)).bits ≡ [] → drop (length bits) (packed_bits (bytes ++ drop at piece)).bits ≡ front
+no_more_behind bits front bytes piece at end h onward r none =
+    let t = bits_through bits front bytes piece at end h onward r in
+    let whole : (packed_bits (bytes ++ drop at piece)).bits ≡ (bits ++ front) ++ t.0 = t.1 ∙ sym (append_assoc bits front t.0) in
+    let rest : t.0 ≡ [] = sym (ap (drop (length (bits ++ front))) whole ∙ drop_at (bits ++ front) t.0 (length (bits ++ front)) refl) ∙ none in
+    ap (drop (length bits)) t.1 ∙ (drop_at bits (front ++ t.0) (length bits) refl ∙ (ap (λ (l : List Bool). front ++ l) rest ∙ append-nil front))
+
 -- a bit that was read is the answer
 pub bit_is : (b : Bool) (bits : List Bool) (bytes piece : List ℕ) (at end : ℕ) (h : Hand) → at ≤ end → HasRead (bits ++ b ∷ []) (bytes ++ slice_range piece at end) h
     → Bit b ≡ answer_after bits (packed_bits (bytes ++ drop at piece))
 bit_is b bits bytes piece at end h onward r =
-    let all = bytes ++ drop at piece in
-    let last = before_next h.last in
-    let rest = number_bits h.left last ++ carried_after last (sound_after last (drop end piece)) in
-    let whole : (packed_bits all).bits ≡ bits ++ (b ∷ rest) =
-    ap (λ (l : List ℕ). (packed_bits l).bits) (sym (range_and_rest bytes piece at end onward))
-    ∙ (bits_of_all (bits ++ b ∷ []) (bytes ++ slice_range piece at end) (drop end piece) h r ∙ append_assoc bits (b ∷ []) rest) in
-    let behind : drop (length bits) (packed_bits all).bits ≡ b ∷ rest = ap (drop (length bits)) whole ∙ drop_at bits (b ∷ rest) (length bits) refl in
+    let t = front_behind bits (b ∷ []) bytes piece at end h onward r in
+    let behind : drop (length bits) (packed_bits (bytes ++ drop at piece)).bits ≡ b ∷ t.0 = t.1 in
     rw behind refl
 
 -- a choice of a byte, by its test

@@ -58,11 +58,11 @@ loop-wanted-preserved c =
       onward = omega (arith, i.onward, c.ready.ensures.onward);
       within = c.ready.ensures.within;
       stands = λ bits bytes r.
-      let taken = bytes ++ slice_range c.args.piece.now c.args.at.now c.loop-wanted.at in
-      let begun = c.ready.ensures.begun c.in-Yes.is (bits ++ number_bits done value) taken (i.stands bits bytes r) in
-      let given = gives_part (bits ++ number_bits done value) (taken ++ slice_range c.args.piece.now c.loop-wanted.at c.ready.new.at) h count (omega (arith, left, c.min-count.ensures)) (omega (arith, left, c.min-count.ensures)) begun in
-      part_joins done count value part bits bytes c.args.piece.now c.args.at.now c.loop-wanted.at c.ready.new.at c.give_part-part.new.self c.give_part-part.ensures.small i.onward c.ready.ensures.onward
-      (rw (c.give_part-part.ensures.part, c.give_part-part.ensures.rest) given);
+          let taken = bytes ++ slice_range c.args.piece.now c.args.at.now c.loop-wanted.at in
+          let begun = c.ready.ensures.begun c.in-Yes.is (bits ++ number_bits done value) taken (i.stands bits bytes r) in
+          let given = gives_part (bits ++ number_bits done value) (taken ++ slice_range c.args.piece.now c.loop-wanted.at c.ready.new.at) h count (omega (arith, left, c.min-count.ensures)) (omega (arith, left, c.min-count.ensures)) begun in
+          part_joins done count value part bits bytes c.args.piece.now c.args.at.now c.loop-wanted.at c.ready.new.at c.give_part-part.new.self c.give_part-part.ensures.small i.onward c.ready.ensures.onward
+          (rw (c.give_part-part.ensures.part, c.give_part-part.ensures.rest) given);
     })
 
 pub returns-clause-exact : goal.returns-clause-exact
