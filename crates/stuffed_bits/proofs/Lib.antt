@@ -4,5 +4,7 @@ pub mod ReadLemmas
 pub mod NumberLemmas
 pub mod PartLemmas
 pub mod PartAnswers
+pub mod FirstRuns
+pub mod RunAnswers
 pub mod PackedLemmas
 pub mod PenLemmas

@@ -11,17 +11,17 @@ use Rattle.stuffed_bits.specs.BitsRead.{HasRead, answer_by, answer_after}
 use Rattle.stuffed_bits.specs.NumbersRead.{number_after}
 use Rattle.stuffed_bits.specs.declared.bit_in.BitOut.TheVariants as bit
 use Rattle.stuffed_bits.specs.declared.numbers.NumberOut.TheVariants.{Number, Need, Stuffed}
-use Rattle.stuffed_bits.proofs.ReadLemmas.{bits_of_all, range_none}
+use Rattle.stuffed_bits.proofs.ReadLemmas.{front_behind, range_none}
 use Rattle.stuffed_bits.proofs.RangeLemmas.{ranges_join, range_and_rest}
 use Rattle.stuffed_bits.proofs.PartLemmas.{joined_bits}
 
 -- where the answer to a bit is that none is left
-none_left : (l : List Bool) (o : Option ℕ) → answer_by l o ≡ bit.Need → (l ≡ []) × (o ≡ None)
+pub none_left : (l : List Bool) (o : Option ℕ) → answer_by l o ≡ bit.Need → (l ≡ []) × (o ≡ None)
 none_left [] None e = (refl, refl)
 none_left [] (Some place) e = absurd (cc)
 none_left (b ∷ l) o e = absurd (cc)
 
-broken_behind : (l : List Bool) (o : Option ℕ) → answer_by l o ≡ bit.Stuffed → (l ≡ []) × ((place : ℕ) × (o ≡ Some place))
+pub broken_behind : (l : List Bool) (o : Option ℕ) → answer_by l o ≡ bit.Stuffed → (l ≡ []) × ((place : ℕ) × (o ≡ Some place))
 broken_behind [] (Some place) e = (refl, (place, refl))
 broken_behind [] None e = absurd (cc)
 broken_behind (b ∷ l) o e = absurd (cc)
@@ -54,15 +54,10 @@ number_breaks width done v bits bytes piece at mid few onward e =
 pub number_is : (width v : ℕ) (bits : List Bool) (bytes piece : List ℕ) (at end : ℕ) (h : Hand) → v < 2 ^ width → at ≤ end
     → HasRead (bits ++ number_bits width v) (bytes ++ slice_range piece at end) h → Number v ≡ number_after width bits (packed_bits (bytes ++ drop at piece))
 number_is width v bits bytes piece at end h small onward r =
-    let all = bytes ++ drop at piece in
-    let last = before_next h.last in
-    let rest = number_bits h.left last ++ carried_after last (sound_after last (drop end piece)) in
-    let whole : (packed_bits all).bits ≡ bits ++ (number_bits width v ++ rest) =
-    ap (λ (l : List ℕ). (packed_bits l).bits) (sym (range_and_rest bytes piece at end onward))
-    ∙ (bits_of_all (bits ++ number_bits width v) (bytes ++ slice_range piece at end) (drop end piece) h r ∙ append_assoc bits (number_bits width v) rest) in
-    let behind : drop (length bits) (packed_bits all).bits ≡ number_bits width v ++ rest = ap (drop (length bits)) whole ∙ drop_at bits (number_bits width v ++ rest) (length bits) refl in
-    let long : nat_le width (length (number_bits width v ++ rest)) ≡ true = le-leb width (length (number_bits width v ++ rest)) (omega (arith, length-append (number_bits width v) rest, number_bits-length width v)) in
-    rw (behind, long) (ap Number (sym (number_of_bits width v small rest)))
+    let t = front_behind bits (number_bits width v) bytes piece at end h onward r in
+    let behind : drop (length bits) (packed_bits (bytes ++ drop at piece)).bits ≡ number_bits width v ++ t.0 = t.1 in
+    let long : nat_le width (length (number_bits width v ++ t.0)) ≡ true = le-leb width (length (number_bits width v ++ t.0)) (omega (arith, length-append (number_bits width v) t.0, number_bits-length width v)) in
+    rw (behind, long) (ap Number (sym (number_of_bits width v small t.0)))
 
 -- before the first part
 pub none_done : (width v : ℕ) (bits : List Bool) (bytes piece : List ℕ) (at : ℕ) (h : Hand) → HasRead bits bytes h → HasRead (bits ++ number_bits (width - width) v) (bytes ++ slice_range piece at at) h
@@ -72,13 +67,18 @@ none_done width v bits bytes piece at h r =
     let none : bytes ++ slice_range piece at at ≡ bytes = ap (λ (l : List ℕ). bytes ++ l) (range_none piece at) ∙ append-nil bytes in
     rw (z, none, append-nil bits) r
 
--- a part more was read
+-- further bits were read, of a further part of the piece
+pub joins_on : (bits some more : List Bool) (bytes piece : List ℕ) (at mid end : ℕ) (h : Hand) → at ≤ mid → mid ≤ end
+    → HasRead ((bits ++ some) ++ more) ((bytes ++ slice_range piece at mid) ++ slice_range piece mid end) h → HasRead (bits ++ (some ++ more)) (bytes ++ slice_range piece at end) h
+joins_on bits some more bytes piece at mid end h t u r =
+    let P : List Bool → Type 0 = λ l. HasRead l (bytes ++ slice_range piece at end) h in
+    let Q : List ℕ → Type 0 = λ l. HasRead ((bits ++ some) ++ more) l h in
+    subst P (append_assoc bits some more) (subst Q (ranges_join bytes piece at mid end t u) r)
+
+-- a part more of a number
 pub part_joins : (done count v part : ℕ) (bits : List Bool) (bytes piece : List ℕ) (at mid end : ℕ) (h : Hand) → part < 2 ^ count → at ≤ mid → mid ≤ end
     → HasRead ((bits ++ number_bits done v) ++ number_bits count part) ((bytes ++ slice_range piece at mid) ++ slice_range piece mid end) h
     → HasRead (bits ++ number_bits (done + count) (v * 2 ^ count + part)) (bytes ++ slice_range piece at end) h
 part_joins done count v part bits bytes piece at mid end h small t u r =
-    let e : (bits ++ number_bits done v) ++ number_bits count part ≡ bits ++ number_bits (done + count) (v * 2 ^ count + part) =
-    append_assoc bits (number_bits done v) (number_bits count part) ∙ ap (λ (l : List Bool). bits ++ l) (sym (joined_bits done count v part small)) in
-    let P : List Bool → Type 0 = λ l. HasRead l (bytes ++ slice_range piece at end) h in
-    let Q : List ℕ → Type 0 = λ l. HasRead ((bits ++ number_bits done v) ++ number_bits count part) l h in
-    subst P e (subst Q (ranges_join bytes piece at mid end t u) r)
+    let P : List Bool → Type 0 = λ l. HasRead (bits ++ l) (bytes ++ slice_range piece at end) h in
+    subst P (sym (joined_bits done count v part small)) (joins_on bits (number_bits done v) (number_bits count part) bytes piece at mid end h t u r)

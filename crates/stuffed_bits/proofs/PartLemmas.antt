@@ -7,16 +7,16 @@ use Rattle.std.proofs.Math.Nat.{div-div-eq-div-mul, mul-le-mul_right, mod-lt, mo
 use Rattle.codestream_model.specs.Bytes.{IsBytes}
 use Rattle.codestream_model.specs.StuffedBits.{number_bits, width_after}
 use Rattle.codestream_model.proofs.BitLemmas.{higher_bits, number_bits-length}
-use Rattle.stuffed_bits.specs.Stands.{StandIn, last_from, last_of, before_next}
+use Rattle.stuffed_bits.specs.Stands.{StandIn, last_from, last_of, before_next, Begun}
 use Rattle.stuffed_bits.specs.Hand.{Hand}
-use Rattle.stuffed_bits.specs.BitsRead.{HasRead, next_of}
+use Rattle.stuffed_bits.specs.BitsRead.{HasRead, HasBegun, next_of}
 use Rattle.stuffed_bits.specs.NumbersRead.{high_part}
 use Rattle.stuffed_bits.specs.declared.bit_in.Next.TheVariants.{Byte}
-use Rattle.stuffed_bits.proofs.StandLemmas.{before_last, last_of-push, Begun, none_begun, begins}
+use Rattle.stuffed_bits.proofs.StandLemmas.{before_last, last_of-push, none_begun, begins}
 use Rattle.stuffed_bits.proofs.ReadLemmas.{byte_next, byte_of_piece, range_one, took}
 
 -- the bits of a number, in two parts
-split_bits : (j k v : ℕ) → number_bits (k + j) v ≡ number_bits k (v / 2 ^ j) ++ number_bits j v
+pub split_bits : (j k v : ℕ) → number_bits (k + j) v ≡ number_bits k (v / 2 ^ j) ++ number_bits j v
 unfolding number_bits
 split_bits j zero v = let z : 0 + j ≡ j = omega arith in rw z refl
 split_bits j (suc k) v =
@@ -28,7 +28,7 @@ split_bits j (suc k) v =
     rw s (ap (λ (l : List Bool). (v / 2 ^ (k + j) % 2 == 1) ∷ l) (split_bits j k v) ∙ ap (λ (b : Bool). b ∷ (number_bits k (v / 2 ^ j) ++ number_bits j v)) h)
 
 -- what a number has above so many bits
-above : (c x y : ℕ) → number_bits c (x * 2 ^ c + y) ≡ number_bits c y
+pub above : (c x y : ℕ) → number_bits c (x * 2 ^ c + y) ≡ number_bits c y
 above c x y = let z : c + 0 ≡ c = omega arith in ap (λ (n : ℕ). number_bits c (x * 2 ^ n + y)) (sym z) ∙ higher_bits c 0 x y
 
 -- a number of so many bits, and another behind it
@@ -69,11 +69,7 @@ hand_bits k left v h =
 pub part_small : (k left v : ℕ) → high_part k left v < 2 ^ k
 part_small k left v = mod-lt (v / 2 ^ (left - k)) (pow_pos k)
 
--- A reader that has given these bits of these bytes, of which the last may be one that was only begun.
-pub record HasBegun (bits : List Bool) (bytes : List ℕ) (h : Hand) : Type 0 where
-  pub last : h.last ≡ last_of bytes
-  pub begun : Begun bits (number_bits h.left (before_next h.last)) bytes
-
+-- no byte was begun
 pub begun_before : (bits : List Bool) (bytes : List ℕ) (h : Hand) → HasRead bits bytes h → HasBegun bits bytes h
 begun_before bits bytes h r = record { last = r.last; begun = none_begun bits (number_bits h.left (before_next h.last)) bytes r.stands }
 
@@ -97,16 +93,18 @@ takes_part bits front spare bytes some s = record {
 }
 
 -- the first bits in hand are given
+pub gives_front : (bits front : List Bool) (bytes : List ℕ) (h : Hand) (k : ℕ) → 0 < length front → number_bits h.left (before_next h.last) ≡ front ++ number_bits k (before_next h.last) → HasBegun bits bytes h
+    → HasRead (bits ++ front) bytes (record h { left = k })
+gives_front bits front bytes h k some e r =
+    let P : List Bool → Type 0 = λ l. Begun bits l bytes in
+    record { last = r.last; stands = takes_part bits front (number_bits k (before_next h.last)) bytes some (subst P e r.begun) }
+
+-- as a part of a number
 pub gives_part : (bits : List Bool) (bytes : List ℕ) (h : Hand) (k : ℕ) → 0 < k → k ≤ h.left → HasBegun bits bytes h
     → HasRead (bits ++ number_bits k (high_part k h.left (before_next h.last))) bytes (record h { left = h.left - k })
 gives_part bits bytes h k some few r =
     let v = before_next h.last in
-    let front = number_bits k (high_part k h.left v) in
-    let P : List Bool → Type 0 = λ l. Begun bits l bytes in
-    record {
-      last = r.last;
-      stands = takes_part bits front (number_bits (h.left - k) v) bytes (omega (arith, number_bits-length k (high_part k h.left v))) (subst P (hand_bits k h.left v few) r.begun);
-    }
+    gives_front bits (number_bits k (high_part k h.left v)) bytes h (h.left - k) (omega (arith, number_bits-length k (high_part k h.left v))) (hand_bits k h.left v few) r
 
 -- the next byte of a piece is begun
 pub begins_piece : (bits : List Bool) (bytes piece : List ℕ) (at b w : ℕ) (h : Hand) → h.left ≡ 0 → IsBytes piece → next_of (before_next h.last) (drop at piece) ≡ Byte b → w ≡ width_after (before_next h.last)

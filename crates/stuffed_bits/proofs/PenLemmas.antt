@@ -5,10 +5,10 @@ use Rattle.std.proofs.lemmas.List.{append-nil, length-append, length-set, length
 use Rattle.codestream_model.specs.StuffedBits.{bit, number_bits, width_after, carried, packing, bytes_of_bits}
 use Rattle.codestream_model.proofs.BitLemmas.{padded, number_bits-zero}
 use Rattle.codestream_model.proofs.PackingLemmas.{width_cases}
-use Rattle.stuffed_bits.specs.Stands.{last_from, StandIn}
+use Rattle.stuffed_bits.specs.Stands.{last_from, StandIn, Begun}
 use Rattle.stuffed_bits.specs.Pen.{Pen}
 use Rattle.stuffed_bits.specs.BitsWritten.{HasWritten, begun, filled, added, reach}
-use Rattle.stuffed_bits.proofs.StandLemmas.{last-push, carried-one, bytes-push, stuffed-push, bytes_less, stuffed_less, Begun, none_begun, begins, takes}
+use Rattle.stuffed_bits.proofs.StandLemmas.{last-push, carried-one, bytes-push, stuffed-push, bytes_less, stuffed_less, none_begun, begins, takes}
 use Rattle.stuffed_bits.proofs.NumberLemmas.{bit_is_set}
 use Rattle.stuffed_bits.proofs.PackedLemmas.{closing, byte_fits, packing_is, reach_of}
 

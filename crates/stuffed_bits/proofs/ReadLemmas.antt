@@ -9,12 +9,13 @@ use Rattle.codestream_model.specs.StuffedBits.{IsStuffed, number_bits, width_aft
 use Rattle.codestream_model.proofs.PackingLemmas.{last_after, carried-append, width_cases}
 use Rattle.codestream_model.proofs.HeaderLemmas.{stuffed_tail, bytes_reached}
 use Rattle.codestream_model.proofs.OneWayLemmas.{same_front}
-use Rattle.stuffed_bits.specs.Stands.{last_from, last_of, before_next, StandIn}
+use Rattle.stuffed_bits.specs.Stands.{last_from, last_of, before_next, StandIn, Begun}
 use Rattle.stuffed_bits.specs.Hand.{Hand}
 use Rattle.stuffed_bits.specs.BitsRead.{HasRead, answer_after, next_of, first_of_hand}
 use Rattle.stuffed_bits.specs.declared.bit_in.BitOut.TheVariants.{Bit, Need, Stuffed}
 use Rattle.stuffed_bits.specs.declared.bit_in.Next.TheVariants.{Byte, Need as NoByte, Stuffed as Broken}
-use Rattle.stuffed_bits.proofs.StandLemmas.{same_last, before_last, last-push, last_of-push, bytes-push, stuffed-push, stuffed_less, Begun, none_begun, begins, takes}
+use Rattle.stuffed_bits.proofs.StandLemmas.{same_last, before_last, last-push, last_of-push, bytes-push, stuffed-push, stuffed_less, none_begun, begins, takes}
+use Rattle.stuffed_bits.proofs.RangeLemmas.{range_and_rest}
 use Rattle.stuffed_bits.proofs.PackedLemmas.{packs_where_closed, reach_of}
 
 -- the first of the bits of a number
@@ -23,17 +24,6 @@ unfolding number_bits
 first_bit zero v h = absurd (omega arith)
 first_bit (suc n) v h = let e : suc n - 1 ≡ n = omega arith in rw e refl
 
--- a bit of the byte in hand
-pub reads_on : (bits : List Bool) (bytes : List ℕ) (h : Hand) → 0 < h.left → HasRead bits bytes h
-    → HasRead (bits ++ first_of_hand h ∷ []) bytes (record h { left = h.left - 1 })
-reads_on bits bytes h some r =
-    let v = before_next h.last in
-    let s : StandIn bits (first_of_hand h ∷ number_bits (h.left - 1) v) bytes = let P : List Bool → Type 0 = λ l. StandIn bits l bytes in subst P (first_bit h.left v some) r.stands in
-    record {
-      last = r.last;
-      stands = takes bits (first_of_hand h) (number_bits (h.left - 1) v) bytes (none_begun bits (first_of_hand h ∷ number_bits (h.left - 1) v) bytes s);
-    }
-
 -- a byte carries some bits
 pub width_some : (before : ℕ) → 0 < width_after before
 width_some before = elim (width_cases before) [ inl t ↦ omega (arith, t.1) | inr t ↦ omega (arith, t.1) ]
@@ -41,25 +31,6 @@ width_some before = elim (width_cases before) [ inl t ↦ omega (arith, t.1) | i
 -- what is in hand behind a byte that was just taken
 abbrev pub took : ℕ → ℕ → Hand
 took before b = record { last = Some b; left = width_after before }
-
--- the first bit of the next byte
-pub reads_next : (bits : List Bool) (bytes : List ℕ) (h : Hand) (b : ℕ) → h.left ≡ 0 → b < 256 → (before_next h.last ≡ 255 → b < 128) → HasRead bits bytes h
-    → HasRead (bits ++ first_of_hand (took (before_next h.last) b) ∷ []) (bytes ++ b ∷ []) (record (took (before_next h.last) b) { left = width_after (before_next h.last) - 1 })
-unfolding number_bits
-reads_next bits bytes h b none small low r =
-    let same : before_next h.last ≡ last_from 0 bytes = ap before_next r.last ∙ before_last bytes in
-    let w = width_after (before_next h.last) in
-    let s : StandIn bits [] bytes = rw none at r.stands in
-    let low_of : last_from 0 bytes ≡ 255 → b < 128 = λ e. low (same ∙ e) in
-    let t : Begun bits (number_bits (width_after (last_from 0 bytes)) b) (bytes ++ b ∷ []) = begins bits bytes b s small low_of in
-    let P : ℕ → Type 0 = λ k. Begun bits (number_bits (width_after k) b) (bytes ++ b ∷ []) in
-    let u : Begun bits (number_bits w b) (bytes ++ b ∷ []) = subst P (sym same) t in
-    let Q : List Bool → Type 0 = λ l. Begun bits l (bytes ++ b ∷ []) in
-    let v : Begun bits (first_of_hand (took (before_next h.last) b) ∷ number_bits (w - 1) b) (bytes ++ b ∷ []) = subst Q (first_bit w b (width_some (before_next h.last))) u in
-    record {
-      last = sym (last_of-push bytes b);
-      stands = takes bits (first_of_hand (took (before_next h.last) b)) (number_bits (w - 1) b) (bytes ++ b ∷ []) v;
-    }
 
 -- stuffed bytes are sound, whatever follows them
 sound_of_front : (before : ℕ) (bytes more : List ℕ) → (before ≡ 255 → slice_index bytes 0 < 128) → IsStuffed bytes → sound_after before (bytes ++ more) ≡ bytes ++ sound_after (last_from before bytes) more
@@ -98,9 +69,40 @@ bits_behind bits bytes more h r =
     let behind = number_bits h.left last ++ carried_after last (sound_after last more) in
     ap (drop (length bits)) (bits_of_all bits bytes more h r) ∙ drop_at bits behind (length bits) refl
 
--- the answer where a bit is in hand
-pub answer_in_hand : (bits : List Bool) (bytes more : List ℕ) (h : Hand) → 0 < h.left → HasRead bits bytes h → Bit (first_of_hand h) ≡ answer_after bits (packed_bits (bytes ++ more))
-answer_in_hand bits bytes more h some r = rw (bits_behind bits bytes more h r, first_bit h.left (before_next h.last) some) refl
+-- the bits that bytes and a piece carry, where so many of them were read
+pub bits_through : (bits front : List Bool) (bytes piece : List ℕ) (at end : ℕ) (h : Hand) → at ≤ end → HasRead (bits ++ front) (bytes ++ slice_range piece at end) h
+    → (rest : List Bool) × ((packed_bits (bytes ++ drop at piece)).bits ≡ bits ++ (front ++ rest))
+bits_through bits front bytes piece at end h onward r =
+    let last = before_next h.last in
+    let rest = number_bits h.left last ++ carried_after last (sound_after last (drop end piece)) in (
+      rest,
+      ap (λ (l : List ℕ). (packed_bits l).bits) (sym (range_and_rest bytes piece at end onward))
+          ∙ (bits_of_all (bits ++ front) (bytes ++ slice_range piece at end) (drop end piece) h r ∙ append_assoc bits front rest),
+    )
+
+-- those behind the ones that were read before
+pub front_behind : (bits front : List Bool) (bytes piece : List ℕ) (at end : ℕ) (h : Hand) → at ≤ end → HasRead (bits ++ front) (bytes ++ slice_range piece at end) h
+    → (rest : List Bool) × (drop (length bits) (packed_bits (bytes ++ drop at piece)).bits ≡ front ++ rest)
+front_behind bits front bytes piece at end h onward r =
+    let t = bits_through bits front bytes piece at end h onward r in
+    (t.0, ap (drop (length bits)) t.1 ∙ drop_at bits (front ++ t.0) (length bits) refl)
+
+-- and no others, where none is left
+pub no_more_behind : (bits front : List Bool) (bytes piece : List ℕ) (at end : ℕ) (h : Hand) → at ≤ end → HasRead (bits ++ front) (bytes ++ slice_range piece at end) h
+    → drop (length (bits ++ front)) (packed_bits (bytes ++ drop at piece)).bits ≡ [] → drop (length bits) (packed_bits (bytes ++ drop at piece)).bits ≡ front
+no_more_behind bits front bytes piece at end h onward r none =
+    let t = bits_through bits front bytes piece at end h onward r in
+    let whole : (packed_bits (bytes ++ drop at piece)).bits ≡ (bits ++ front) ++ t.0 = t.1 ∙ sym (append_assoc bits front t.0) in
+    let rest : t.0 ≡ [] = sym (ap (drop (length (bits ++ front))) whole ∙ drop_at (bits ++ front) t.0 (length (bits ++ front)) refl) ∙ none in
+    ap (drop (length bits)) t.1 ∙ (drop_at bits (front ++ t.0) (length bits) refl ∙ (ap (λ (l : List Bool). front ++ l) rest ∙ append-nil front))
+
+-- a bit that was read is the answer
+pub bit_is : (b : Bool) (bits : List Bool) (bytes piece : List ℕ) (at end : ℕ) (h : Hand) → at ≤ end → HasRead (bits ++ b ∷ []) (bytes ++ slice_range piece at end) h
+    → Bit b ≡ answer_after bits (packed_bits (bytes ++ drop at piece))
+bit_is b bits bytes piece at end h onward r =
+    let t = front_behind bits (b ∷ []) bytes piece at end h onward r in
+    let behind : drop (length bits) (packed_bits (bytes ++ drop at piece)).bits ≡ b ∷ t.0 = t.1 in
+    rw behind refl
 
 -- a choice of a byte, by its test
 no_choice : (t : Bool) (b : ℕ) → (if t then Broken else Byte b) ≡ NoByte → ⊥
@@ -161,17 +163,6 @@ answer_broken bits bytes more h none e r =
     let part : nat_lt (length (sound_after 0 (bytes ++ more))) (length (bytes ++ more)) ≡ true = rw sound (le-leb (suc (length bytes)) (length (bytes ++ more)) (omega (arith, next.1, length-append bytes more))) in
     rw (behind, part) refl
 
--- where another byte follows
-pub answer_next : (bits : List Bool) (bytes more : List ℕ) (h : Hand) (b : ℕ) → h.left ≡ 0 → next_of (before_next h.last) more ≡ Byte b → HasRead bits bytes h
-    → Bit (first_of_hand (took (before_next h.last) b)) ≡ answer_after bits (packed_bits (bytes ++ more))
-unfolding number_bits carried_after
-answer_next bits bytes more h b none e r =
-    let next = byte_next (before_next h.last) more b e in
-    let sound : sound_after (before_next h.last) more ≡ b ∷ sound_after b next.0 = next.2 in
-    let some : number_bits (width_after (before_next h.last)) b ≡ first_of_hand (took (before_next h.last) b) ∷ number_bits (width_after (before_next h.last) - 1) b = first_bit (width_after (before_next h.last)) b (width_some (before_next h.last)) in
-    let behind : drop (length bits) (packed_bits (bytes ++ more)).bits ≡ number_bits (width_after (before_next h.last)) b ++ carried_after b (sound_after b next.0) = bits_behind bits bytes more h r ∙ rw (none, sound) refl in
-    rw (behind, some) refl
-
 -- no byte of a piece, and one
 pub range_none : (xs : List ℕ) (i : ℕ) → slice_range xs i i ≡ []
 range_none xs i = let e : i - i ≡ 0 = omega arith in rw e refl
@@ -215,20 +206,6 @@ closed_by_one bits bytes piece at b h some ff small e r =
 -- an item of a piece is a byte
 pub byte_of_piece : (piece rest : List ℕ) (at b : ℕ) → drop at piece ≡ b ∷ rest → IsBytes piece → b < 256
 byte_of_piece piece rest at b e h = omega (arith, h (at + 0), get_or-drop at piece 0 0, ap (λ (l : List ℕ). slice_index l 0) e)
-
--- a byte of a piece is taken, and its first bit given
-pub reads_piece : (bits : List Bool) (bytes piece : List ℕ) (at b w : ℕ) (h : Hand) → h.left ≡ 0 → IsBytes piece → next_of (before_next h.last) (drop at piece) ≡ Byte b → w ≡ width_after (before_next h.last)
-    → HasRead bits bytes h
-    → HasRead (bits ++ first_of_hand (record { last = Some b; left = w }) ∷ []) (bytes ++ slice_range piece at (at + 1)) (record { last = Some b; left = w - 1 })
-reads_piece bits bytes piece at b w h none each e width r =
-    let next = byte_next (before_next h.last) (drop at piece) b e in
-    let one : slice_range piece at (at + 1) ≡ b ∷ [] = range_one piece next.0 at b next.1 in
-    rw (one, width) (reads_next bits bytes h b none (byte_of_piece piece next.0 at b next.1 each) next.3 r)
-
--- and the answer is that bit
-pub answer_of_piece : (bits : List Bool) (bytes more : List ℕ) (b w : ℕ) (h : Hand) → h.left ≡ 0 → next_of (before_next h.last) more ≡ Byte b → w ≡ width_after (before_next h.last) → HasRead bits bytes h
-    → Bit (first_of_hand (record { last = Some b; left = w })) ≡ answer_after bits (packed_bits (bytes ++ more))
-answer_of_piece bits bytes more b w h none e width r = rw width (answer_next bits bytes more h b none e r)
 
 -- one item of a list is its first
 first_of_one : (n : ℕ) (rest : List ℕ) → length (take n rest) ≡ 1 → (b : ℕ) × (more : List ℕ) × (rest ≡ b ∷ more) × (take n rest ≡ b ∷ [])

@@ -5,7 +5,7 @@ use Rattle.codestream_model.specs.Bytes.{IsBytes}
 use Rattle.codestream_model.specs.StuffedBits.{IsStuffed, number_bits, width_after, carried_after, carried}
 use Rattle.codestream_model.proofs.PackingLemmas.{last_after, carried-append, bytes-cons, bytes-nil, stuffed-cons, stuffed-nil}
 use Rattle.codestream_model.proofs.HeaderLemmas.{stuffed_tail}
-use Rattle.stuffed_bits.specs.Stands.{last_from, last_of, before_next, StandIn}
+use Rattle.stuffed_bits.specs.Stands.{last_from, last_of, before_next, StandIn, Begun}
 
 -- the last of bytes, as the model of packing has it
 pub same_last : (before : ℕ) (bytes : List ℕ) → last_after before bytes ≡ last_from before bytes
@@ -60,13 +60,6 @@ unfolding last_from
 stuffed_less [] b t = (stuffed-nil, λ e. absurd (omega arith))
 stuffed_less (x ∷ []) b t = (stuffed-cons x [] (λ e. omega arith) stuffed-nil, t 0)
 stuffed_less (x ∷ y ∷ bytes) b t = let r = stuffed_less (y ∷ bytes) b (stuffed_tail x (y ∷ (bytes ++ b ∷ [])) t) in (stuffed-cons x (y ∷ bytes) (t 0) r.0, r.1)
-
--- As `StandIn`, but a shorter front of the bytes may carry all the bits: the last byte may be one that was only begun.
-pub record Begun (bits spare : List Bool) (bytes : List ℕ) : Type 0 where
-  pub each : IsBytes bytes
-  pub stuffed : IsStuffed bytes
-  pub filled : carried bytes ≡ bits ++ spare
-  pub needed : (n : ℕ) → n < length bytes → length (carried (take n bytes)) ≤ length bits
 
 -- no byte was begun
 pub none_begun : (bits spare : List Bool) (bytes : List ℕ) → StandIn bits spare bytes → Begun bits spare bytes

@@ -1,10 +1,12 @@
 -- What a reader of bits has read, and what it answers.
 use Rattle.std.specs.Prelude.{◌≡◌, ◌/◌, ◌%◌, ◌-◌, ◌^◌, ◌==◌, ◌&&◌, ℕ, Bool, false, List, [], ◌∷◌, length, drop, nat_le, Option, Some, None, if◌then◌else◌}
 use Rattle.codestream_model.specs.StuffedBits.{BitRun, number_bits}
-use Rattle.stuffed_bits.specs.Stands.{StandIn, last_of, before_next}
+use Rattle.stuffed_bits.specs.Stands.{StandIn, Begun, last_of, before_next}
 use Rattle.stuffed_bits.specs.Hand.{Hand}
 use Rattle.stuffed_bits.specs.declared.bit_in.BitOut.{BitOut}
 use Rattle.stuffed_bits.specs.declared.bit_in.BitOut.TheVariants.{Bit, Need, Stuffed}
+use Rattle.stuffed_bits.specs.declared.bit_in.Ready.{Ready}
+use Rattle.stuffed_bits.specs.declared.bit_in.Ready.TheVariants as ready
 use Rattle.stuffed_bits.specs.declared.bit_in.Next.{Next}
 use Rattle.stuffed_bits.specs.declared.bit_in.Next.TheVariants.{Byte, Need as NoByte, Stuffed as Broken}
 
@@ -13,6 +15,11 @@ use Rattle.stuffed_bits.specs.declared.bit_in.Next.TheVariants.{Byte, Need as No
 pub record HasRead (bits : List Bool) (bytes : List ℕ) (h : Hand) : Type 0 where
   pub last : h.last ≡ last_of bytes
   pub stands : StandIn bits (number_bits h.left (before_next h.last)) bytes
+
+-- The same of a reader that may have taken the last byte for none of these bits.
+pub record HasBegun (bits : List Bool) (bytes : List ℕ) (h : Hand) : Type 0 where
+  pub last : h.last ≡ last_of bytes
+  pub begun : Begun bits (number_bits h.left (before_next h.last)) bytes
 
 -- the bits that an answer gives
 abbrev pub given : BitOut → List Bool
@@ -47,3 +54,9 @@ next_of before (b ∷ more) = if (before == 255) && nat_le 128 b then Broken els
 -- the first bit in hand that wasn't given
 abbrev pub first_of_hand : Hand → Bool
 first_of_hand h = before_next h.last / 2 ^ (h.left - 1) % 2 == 1
+
+-- where no bit is in hand, the answer to one says why
+abbrev pub IsEndAt : BitOut → Ready → Type 0
+IsEndAt out ready.Yes = Unit {0}
+IsEndAt out ready.Need = out ≡ Need
+IsEndAt out ready.Stuffed = out ≡ Stuffed

@@ -1,12 +1,8 @@
 -- What a reader of bits answers where a number of several bits is read.
 use Rattle.std.specs.Prelude.{◌≡◌, ◌<◌, ◌≤◌, ◌-◌, ◌/◌, ◌%◌, ◌^◌, ℕ, Bool, List, [], length, drop, nat_le, Option, Some, None, if◌then◌else◌}
 use Rattle.codestream_model.specs.StuffedBits.{BitRun, number_bits, number_of}
-use Rattle.stuffed_bits.specs.declared.bit_in.BitOut.{BitOut}
-use Rattle.stuffed_bits.specs.declared.bit_in.BitOut.TheVariants as bit
 use Rattle.stuffed_bits.specs.declared.numbers.NumberOut.{NumberOut}
 use Rattle.stuffed_bits.specs.declared.numbers.NumberOut.TheVariants.{Number, Need, Stuffed}
-use Rattle.stuffed_bits.specs.declared.numbers.Part.{Part}
-use Rattle.stuffed_bits.specs.declared.numbers.Part.TheVariants as part
 
 -- the answer where too few bits are left, by whether the stuffing is broken behind them
 abbrev pub short_by : Option ℕ → NumberOut
@@ -20,24 +16,6 @@ number_by width bits broken_at = if nat_le width (length bits) then Number (numb
 -- the answer after these bits
 abbrev pub number_after : ℕ → List Bool → BitRun → NumberOut
 number_after width bits run = number_by width (drop (length bits) run.bits) run.broken_at
-
--- a part of a number has one bit or more, and no more than are wanted
-abbrev pub IsPartOf : ℕ → Part → Type 0
-IsPartOf wanted (part.Bits value count) = (0 < count) × (count ≤ wanted) × (value < 2 ^ count)
-IsPartOf wanted part.Need = Unit {0}
-IsPartOf wanted part.Stuffed = Unit {0}
-
--- the bits of a part
-abbrev pub part_bits : Part → List Bool
-part_bits (part.Bits value count) = number_bits count value
-part_bits part.Need = []
-part_bits part.Stuffed = []
-
--- where there is no part, the answer to a bit is the same
-abbrev pub IsEndAt : BitOut → Part → Type 0
-IsEndAt out (part.Bits value count) = Unit {0}
-IsEndAt out part.Need = out ≡ bit.Need
-IsEndAt out part.Stuffed = out ≡ bit.Stuffed
 
 -- the highest bits of the lowest bits of a byte, as a number: so many of so many
 abbrev pub high_part : ℕ → ℕ → ℕ → ℕ

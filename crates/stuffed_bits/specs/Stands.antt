@@ -1,5 +1,5 @@
 -- Bits that stand in bytes while more may follow (T.800 B.10.1).
-use Rattle.std.specs.Prelude.{◌≡◌, ◌<◌, ◌++◌, ℕ, Bool, List, [], ◌∷◌, length, take, Option, Some, None}
+use Rattle.std.specs.Prelude.{◌≡◌, ◌<◌, ◌≤◌, ◌++◌, ℕ, Bool, List, [], ◌∷◌, length, take, Option, Some, None}
 use Rattle.codestream_model.specs.Bytes.{IsBytes}
 use Rattle.codestream_model.specs.StuffedBits.{IsStuffed, carried}
 
@@ -25,3 +25,10 @@ pub record StandIn (bits spare : List Bool) (bytes : List ℕ) : Type 0 where
   pub stuffed : IsStuffed bytes
   pub filled : carried bytes ≡ bits ++ spare
   pub needed : (n : ℕ) → n < length bytes → length (carried (take n bytes)) < length bits
+
+-- As `StandIn`, but a shorter front of the bytes may carry all the bits: the last byte may be one that was only begun.
+pub record Begun (bits spare : List Bool) (bytes : List ℕ) : Type 0 where
+  pub each : IsBytes bytes
+  pub stuffed : IsStuffed bytes
+  pub filled : carried bytes ≡ bits ++ spare
+  pub needed : (n : ℕ) → n < length bytes → length (carried (take n bytes)) ≤ length bits

@@ -4,7 +4,7 @@ ghost use Rattle.std.specs.List.{slice_range};
 ghost use Rattle.codestream_model.specs.StuffedBits.{Packs, packed_bits, closing_after};
 ghost use Rattle.stuffed_bits.specs.Stands.{before_next};
 ghost use Rattle.stuffed_bits.specs.Hand.{no_byte};
-ghost use Rattle.stuffed_bits.specs.BitsRead.{HasRead, given, answer_after, closing_answer, next_of, first_of_hand};
+ghost use Rattle.stuffed_bits.specs.BitsRead.{HasRead, HasBegun, IsEndAt, given, answer_after, closing_answer, next_of, first_of_hand};
 
 use crate::width::{FF, width_after};
 use std::marker::Model;
@@ -23,6 +23,13 @@ pub enum BitOut {
 /// A byte that is wanted.
 pub(crate) enum Next {
     Byte(u8),
+    Need,
+    Stuffed,
+}
+
+/// Whether a bit is in hand.
+pub(crate) enum Ready {
+    Yes,
     Need,
     Stuffed,
 }
@@ -94,6 +101,33 @@ impl BitIn {
         (self.before() >> self.left) % 2 == 1
     }
 
+    /// Takes the next byte where no bit is in hand.
+    pub(crate) fn ready(&mut self, piece: &[u8], at: &mut usize) -> Ready
+        requires { at.old ≤ length piece.now }
+        ensures ended { (bits : List Bool) (bytes : List ℕ) → HasRead bits bytes self.old → IsEndAt (answer_after bits (packed_bits (bytes ++ drop at.old piece.now))) result }
+        ensures begun { result ≡ Ready.Yes → (bits : List Bool) (bytes : List ℕ) → HasRead bits bytes self.old → HasBegun bits (bytes ++ slice_range piece.now at.old at.new) self.new }
+        ensures some { result ≡ Ready.Yes → 0 < self.new.left }
+        ensures taken { result ≡ Ready.Yes → IsSome self.new.last }
+        ensures onward { at.old ≤ at.new }
+        ensures within { at.new ≤ length piece.now }
+        ensures unchanged { result ≢ Ready.Yes → (self.new ≡ self.old) × (at.new ≡ at.old) }
+    {
+        if self.left > 0 {
+            return Ready::Yes;
+        }
+        let before = self.before();
+        match next_byte(before, piece, *at) {
+            Next::Need => Ready::Need,
+            Next::Stuffed => Ready::Stuffed,
+            Next::Byte(byte) => {
+                self.last = Some(byte);
+                self.left = width_after(before);
+                *at += 1;
+                Ready::Yes
+            }
+        }
+    }
+
     /// Reads the next bit.
     ///
     /// `piece` are the bytes at hand, and `at` is the place in them behind the last byte that was taken; it moves past a
@@ -107,19 +141,10 @@ impl BitIn {
         ensures within { at.new ≤ length piece.now }
         ensures unchanged { given result ≡ [] → (self.new ≡ self.old) × (at.new ≡ at.old) }
     {
-        if self.left > 0 {
-            return BitOut::Bit(self.give());
-        }
-        let before = self.before();
-        match next_byte(before, piece, *at) {
-            Next::Need => BitOut::Need,
-            Next::Stuffed => BitOut::Stuffed,
-            Next::Byte(byte) => {
-                self.last = Some(byte);
-                self.left = width_after(before);
-                *at += 1;
-                BitOut::Bit(self.give())
-            }
+        match self.ready(piece, at) {
+            Ready::Need => BitOut::Need,
+            Ready::Stuffed => BitOut::Stuffed,
+            Ready::Yes => BitOut::Bit(self.give()),
         }
     }
 

@@ -8,11 +8,13 @@
 mod bit_in;
 mod bit_writer;
 mod numbers;
+mod runs;
 mod width;
 
 pub use bit_in::{BitIn, BitOut};
 pub use bit_writer::{BitWriter, Full};
 pub use numbers::NumberOut;
+pub use runs::RunOut;
 
 #[cfg(test)]
 mod tests;

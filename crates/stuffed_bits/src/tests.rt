@@ -140,6 +140,45 @@ fn a_number_goes_on_in_a_further_piece(rt: HostRuntime) {
     assert_eq!(rt; further, 1);
 }
 
+#[test]
+fn runs_are_read_with_the_bit_that_ends_them(rt: HostRuntime) {
+    let bytes = [0x1F, 0xFF, 0x7F, 0x40];
+    let mut reader = BitIn::new();
+    let mut at = 0;
+    assert_eq!(rt; reader.run(false, 75, &bytes, &mut at), RunOut::Run(3));
+    assert_eq!(rt; at, 1);
+    assert_eq!(rt;
+        reader.run(true, 22, &bytes, &mut at),
+        RunOut::Run(4 + 8 + 7)
+    );
+    assert_eq!(rt; at, 4);
+    assert_eq!(rt; reader.run(false, 75, &bytes, &mut at), RunOut::Run(0));
+    assert_eq!(rt; reader.run(false, 5, &bytes, &mut at), RunOut::Run(5));
+    assert_eq!(rt; reader.run(true, 0, &bytes, &mut at), RunOut::Run(0));
+    assert_eq!(rt; reader.run(true, 9, &bytes, &mut at), RunOut::Run(0));
+    assert_eq!(rt; reader.run(true, 9, &bytes, &mut at), RunOut::Need);
+}
+
+#[test]
+fn a_run_of_the_most_bits_takes_no_further_one(rt: HostRuntime) {
+    let bytes = [0xFF, 0x7F, 0xFE];
+    let mut reader = BitIn::new();
+    let mut at = 0;
+    assert_eq!(rt; reader.run(true, 22, &bytes, &mut at), RunOut::Run(22));
+    assert_eq!(rt; reader.bit(&bytes, &mut at), BitOut::Bit(false));
+    assert_eq!(rt; reader.bit(&bytes, &mut at), BitOut::Need);
+    let mut whole = 0;
+    assert_eq!(rt;
+        BitIn::new().run(true, 8, &[0xFF, 0x80], &mut whole),
+        RunOut::Run(8)
+    );
+    let mut broken = 0;
+    assert_eq!(rt;
+        BitIn::new().run(true, 9, &[0xFF, 0x80], &mut broken),
+        RunOut::Stuffed
+    );
+}
+
 /// Writes bits and closes them.
 fn write(bits: &[u8], buf: &mut [u8]) -> Result<usize, Full> {
     let mut writer = BitWriter::new();

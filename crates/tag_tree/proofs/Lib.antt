@@ -1,4 +1,5 @@
 pub mod AnswerLemmas
+pub mod ZeroRuns
 pub mod KnowLemmas
 pub mod PlaceLemmas
 pub mod ReachLemmas

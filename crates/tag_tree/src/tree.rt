@@ -8,7 +8,7 @@ ghost use Rattle.tag_tree.specs.LeafReading.{Knows, IsSameShape, Reads, ReadsLab
 use crate::layout::{LEVELS, bases, exponent_of, most_nodes, width};
 use std::alloc::{AllocError, Global};
 use std::marker::Model;
-use stuffed_bits::{BitIn, BitOut};
+use stuffed_bits::{BitIn, BitOut, RunOut};
 
 /// What is read of a leaf.
 #[derive(Clone, Copy, Debug, PartialEq, Eq)]
@@ -33,17 +33,15 @@ fn label_from(least: u8, bits: &mut BitIn, piece: &[u8], at: &mut usize) -> Tree
     ensures onward { at.old ≤ at.new }
     ensures within { at.new ≤ length piece.now }
 {
-    match bits.bit(piece, at) {
-        BitOut::Need => TreeOut::Need,
-        BitOut::Stuffed => TreeOut::Stuffed,
-        BitOut::Bit(last) => {
-            if last {
-                return TreeOut::Value(least);
-            }
-            if least >= GREATEST {
+    let most = GREATEST.saturating_sub(least) + 1;
+    match bits.run(false, most, piece, at) {
+        RunOut::Need => TreeOut::Need,
+        RunOut::Stuffed => TreeOut::Stuffed,
+        RunOut::Run(zeros) => {
+            if zeros >= most {
                 return TreeOut::TooGreat;
             }
-            label_from(least + 1, bits, piece, at)
+            TreeOut::Value(least + zeros)
         }
     }
 }

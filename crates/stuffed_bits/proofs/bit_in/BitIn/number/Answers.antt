@@ -1,8 +1,9 @@
 -- A number, part by part.
-use Rattle.std.proofs.Common.{◌≡◌, ◌+◌, ◌-◌, ◌++◌, arith}
+use Rattle.std.proofs.Common.{◌≡◌, ◌<◌, ◌+◌, ◌-◌, ◌++◌, ap, arith}
+use Rattle.stuffed_bits.specs.Hand.{Hand}
 use Rattle.std.specs.List.{slice_range}
 use Rattle.codestream_model.specs.StuffedBits.{number_bits}
-use Rattle.stuffed_bits.proofs.PartLemmas.{Joins, joins}
+use Rattle.stuffed_bits.proofs.PartLemmas.{Joins, joins, gives_part}
 use Rattle.stuffed_bits.proofs.PartAnswers.{number_needs, number_breaks, number_is, part_joins, none_done}
 use Rattle.stuffed_bits.proofs.bit_in.BitIn.number.Goals as goal
 
@@ -34,28 +35,34 @@ returns-in-Stuffed-clause-exact c = λ bits bytes r.
 pub overflow_add-value : goal.overflow_add-value
 overflow_add-value c =
     let i = c.loop-wanted.invariant in
-    let p = c.in-Bits.ensures.part in
-    let j : Joins (c.args.width - c.loop-wanted.wanted) c.in-Bits.count c.loop-wanted.value c.in-Bits.bits =
-    joins (c.args.width - c.loop-wanted.wanted) c.in-Bits.count c.loop-wanted.value c.in-Bits.bits (omega (arith, i.few, p.1, c.requires.low)) i.small p.2 in
+    let done = c.args.width - c.loop-wanted.wanted in
+    let j : Joins done c.min-count.result c.loop-wanted.value c.give_part-part.result =
+    joins done c.min-count.result c.loop-wanted.value c.give_part-part.result (omega (arith, i.few, c.min-count.ensures, c.requires.low)) i.small c.give_part-part.ensures.small in
     rw j.unwrapped (omega (arith, j.low))
 
 pub loop-wanted-preserved : goal.loop-wanted-preserved
 loop-wanted-preserved c =
     let i = c.loop-wanted.invariant in
-    let p = c.in-Bits.ensures.part in
     let done = c.args.width - c.loop-wanted.wanted in
     let value = c.loop-wanted.value in
-    let j : Joins done c.in-Bits.count value c.in-Bits.bits = joins done c.in-Bits.count value c.in-Bits.bits (omega (arith, i.few, p.1, c.requires.low)) i.small p.2 in
-    let more : c.args.width - (c.loop-wanted.wanted - c.in-Bits.count) ≡ done + c.in-Bits.count = omega (arith, i.few, p.1) in
+    let count = c.min-count.result in
+    let part = c.give_part-part.result in
+    let h = c.ready.new.self in
+    let left : c.self.inside.left ≡ h.left = ap (λ (x : Hand). x.left) c.self.view_is in
+    let some : 0 < h.left = c.ready.ensures.some c.in-Yes.is in
+    let j : Joins done count value part = joins done count value part (omega (arith, i.few, c.min-count.ensures, c.requires.low)) i.small c.give_part-part.ensures.small in
+    let more : c.args.width - (c.loop-wanted.wanted - count) ≡ done + count = omega (arith, i.few, c.min-count.ensures) in
     rw (j.unwrapped, more) (record {
       few = omega (arith, i.few);
       small = j.small;
-      onward = omega (arith, i.onward, c.part.ensures.onward);
-      within = c.part.ensures.within;
+      onward = omega (arith, i.onward, c.ready.ensures.onward);
+      within = c.ready.ensures.within;
       stands = λ bits bytes r.
           let taken = bytes ++ slice_range c.args.piece.now c.args.at.now c.loop-wanted.at in
-          part_joins done c.in-Bits.count value c.in-Bits.bits bits bytes c.args.piece.now c.args.at.now c.loop-wanted.at c.part.new.at c.part.new.self p.2 i.onward c.part.ensures.onward
-          (c.in-Bits.ensures.stands (bits ++ number_bits done value) taken (i.stands bits bytes r));
+          let begun = c.ready.ensures.begun c.in-Yes.is (bits ++ number_bits done value) taken (i.stands bits bytes r) in
+          let given = gives_part (bits ++ number_bits done value) (taken ++ slice_range c.args.piece.now c.loop-wanted.at c.ready.new.at) h count (omega (arith, left, c.min-count.ensures)) (omega (arith, left, c.min-count.ensures)) begun in
+          part_joins done count value part bits bytes c.args.piece.now c.args.at.now c.loop-wanted.at c.ready.new.at c.give_part-part.new.self c.give_part-part.ensures.small i.onward c.ready.ensures.onward
+          (rw (c.give_part-part.ensures.part, c.give_part-part.ensures.rest) given);
     })
 
 pub returns-clause-exact : goal.returns-clause-exact

@@ -1,0 +1,39 @@
+-- What a reader of bits answers where a run of equal bits is read.
+use Rattle.std.specs.Prelude.{◌≡◌, ◌<◌, ◌≤◌, ◌⊎◌, ◌-◌, ◌%◌, ◌^◌, ◌++◌, ℕ, Bool, not, List, [], ◌∷◌, replicate, nat_lt, Option, None, IsSome, if◌then◌else◌}
+use Rattle.stuffed_bits.specs.declared.runs.RunOut.{RunOut}
+use Rattle.stuffed_bits.specs.declared.runs.RunOut.TheVariants.{Run, Need, Stuffed}
+use Rattle.stuffed_bits.specs.declared.runs.RunPart.{RunPart}
+use Rattle.stuffed_bits.specs.declared.runs.RunPart.TheVariants as part
+
+-- so many bits of this kind, and where they are fewer than the most, one of the other kind
+abbrev pub run_bits : Bool → ℕ → ℕ → List Bool
+run_bits of most n = replicate n of ++ (if nat_lt n most then not of ∷ [] else [])
+
+-- these bits are of one kind, and fewer than the most
+abbrev pub IsShort : Bool → ℕ → List Bool → Type 0
+IsShort of most bits = (n : ℕ) × (n < most) × (bits ≡ replicate n of)
+
+-- The answer where these bits are left: how many of this kind come first, up to the most. Where they are fewer than the most
+-- and no bit follows, the answer says whether the stuffing is broken there.
+abbrev pub IsRun : Bool → ℕ → List Bool → Option ℕ → RunOut → Type 0
+IsRun of most bits broken_at (Run n) = (n ≤ most) × ((rest : List Bool) × (bits ≡ run_bits of most n ++ rest))
+IsRun of most bits broken_at Need = IsShort of most bits × (broken_at ≡ None)
+IsRun of most bits broken_at Stuffed = IsShort of most bits × IsSome broken_at
+
+-- so many bits of this kind come first, and no further one follows them
+abbrev pub BeginsWith : Bool → ℕ → List Bool → Type 0
+BeginsWith of n bits = (bits ≡ replicate n of) ⊎ ((rest : List Bool) × (bits ≡ replicate n of ++ not of ∷ rest))
+
+-- the number in whose lowest bits, so many, those are 1 that aren't of this kind in the byte
+abbrev pub others_in : Bool → ℕ → ℕ → ℕ
+others_in of left byte = if of then 2 ^ left - 1 - byte % 2 ^ left else byte % 2 ^ left
+
+-- the bits that a part of a run has
+abbrev pub run_part_bits : Bool → RunPart → List Bool
+run_part_bits of (part.Ended n) = replicate n of ++ not of ∷ []
+run_part_bits of (part.Whole n) = replicate n of
+
+-- a part of a run of which so many bits are wanted
+abbrev pub IsRunPartOf : ℕ → RunPart → Type 0
+IsRunPartOf wanted (part.Ended n) = n < wanted
+IsRunPartOf wanted (part.Whole n) = (0 < n) × (n ≤ wanted)
