@@ -7,7 +7,7 @@ use Rattle.std.proofs.lemmas.List.Concat.{flat_map-append}
 use Rattle.codestream_model.specs.Values as values
 use Rattle.codestream_model.specs.StuffedBits.{number_bits}
 use Rattle.codestream_model.specs.TagTrees.{Seat, seats, seat_of, inclusion_bits, value_steps, least_inclusion, least_planes}
-use Rattle.codestream_model.specs.HeaderPieces.{Piece, InclusionPiece, PlanesPiece, RefinePiece, piece_bits, bits_of, passes_code, run_of, stands_at, refine_width, block_pieces, seat_pieces}
+use Rattle.codestream_model.specs.HeaderPieces.{InclusionPiece, PlanesPiece, RefinePiece, piece_bits, bits_of, passes_code, run_of, stands_at, refine_width, block_pieces, seat_pieces}
 use Rattle.codestream_model.specs.PacketHeader.{is_included, least_lblock, first_lblock, lblock_at, least_choices}
 use Rattle.codestream_model.proofs.ReadingLemmas.{segment_pieces}
 use Rattle.codestream_model.proofs.TreeLemmas.{AreDistinct, either, among_all}

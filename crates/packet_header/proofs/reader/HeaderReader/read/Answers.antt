@@ -11,7 +11,6 @@ use Rattle.precinct_geometry.specs.declared.place.Grid.{Grid}
 use Rattle.packet_header.specs.Answers.{Tells}
 use Rattle.packet_header.specs.Headers.{ReadsHeader}
 use Rattle.packet_header.specs.declared.block.Block.{Block}
-use Rattle.packet_header.specs.declared.refusal.HeaderOut.{HeaderOut}
 use Rattle.packet_header.proofs.HeaderRuns.{first_bytes, tells, told_header, header_told, told_refusal, refusal_told, told_need, need_told}
 use Rattle.packet_header.proofs.reader.HeaderReader.read.Goals as goal
 
