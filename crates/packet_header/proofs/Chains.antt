@@ -1,8 +1,8 @@
 -- What is read in parts, one behind another.
-use Rattle.std.proofs.Common.{◌≡◌, ◌+◌, ℕ, suc, Bool, true, false, List, [], ◌∷◌, nat_le, Result, Ok, Err, refl, sym, ◌∙◌, ap, subst, arith}
+use Rattle.std.proofs.Common.{◌≡◌, ℕ, Bool, true, false, List, [], ◌∷◌, Result, Ok, Err, refl, sym, ◌∙◌, ap, subst}
 use Rattle.codestream_model.specs.StuffedBits.{packed_bits}
-use Rattle.codestream_model.specs.HeaderPieces.{Passes, LengthBits}
-use Rattle.codestream_model.specs.PacketHeaderReading.{Read, Got, AtEnd, Refused, and_then, unless, read_bit, read_passes, read_lblock}
+use Rattle.codestream_model.specs.HeaderPieces.{Passes}
+use Rattle.codestream_model.specs.PacketHeaderReading.{Read, Got, AtEnd, Refused, and_then, read_bit, read_passes}
 use Rattle.packet_header.specs.Standing.{Stands, left}
 use Rattle.packet_header.specs.Answers.{why_of, stop_at}
 use Rattle.packet_header.specs.Reads.{GoesOn, Reads}
@@ -85,17 +85,6 @@ passes_by_bits (true ∷ true ∷ true ∷ []) = refl
 passes_by_bits (true ∷ true ∷ false ∷ false ∷ l) = refl
 passes_by_bits (true ∷ true ∷ false ∷ true ∷ l) = refl
 passes_by_bits (true ∷ true ∷ true ∷ b ∷ l) = refl
-
--- Lblock, by its next bit
-abbrev pub lblock_by : ℕ → Bool → List Bool → Read ℕ
-lblock_by least false l = Got least l
-lblock_by least true l = unless (nat_le 24 least) LengthBits (read_lblock (least + 1) l)
-
-pub lblock_by_bits : (least : ℕ) (l : List Bool) → read_lblock least l ≡ and_then (read_bit l) (lblock_by least)
-unfolding read_lblock
-lblock_by_bits least [] = refl
-lblock_by_bits least (false ∷ l) = refl
-lblock_by_bits least (true ∷ l) = let e : suc least ≡ least + 1 = omega arith in ap (λ (n : ℕ). unless (nat_le 24 least) LengthBits (read_lblock n l)) e
 
 -- a bit that was read is the first of those that were left
 pub record BitRead (old new : Source) (b : Bool) : Type 0 where

@@ -1,4 +1,5 @@
 pub mod Standings
+pub mod Runs
 pub mod Leaves
 pub mod Closings
 pub mod Chains

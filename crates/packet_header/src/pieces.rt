@@ -54,13 +54,12 @@ pub fn lblock_from(least: u8, source: &mut Source<'_>) -> Result<u8, Stop>
     ensures read { Reads (read_lblock least (left source.old)) source.old source.new result }
     ensures few { IfOk result (λ n. n ≤ 24) }
 {
-    if !source.bit()? {
-        return Ok(least);
-    }
-    if least >= MOST_LENGTH_BITS {
+    let most = MOST_LENGTH_BITS - least + 1;
+    let ones = source.run(true, most)?;
+    if ones >= most {
         return Err(Stop::Bad(HeaderWhy::LengthBits));
     }
-    lblock_from(least + 1, source)
+    Ok(least + ones)
 }
 
 /// Reads the length of a cleanup segment, 2 to 65,534, in so many bits.

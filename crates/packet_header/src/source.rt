@@ -1,16 +1,17 @@
 //! The bits of a packet header, read one after another of the bytes at hand.
-ghost use Rattle.std.specs.Prelude.{◌≡◌, ◌≤◌, ◌<◌, ◌-◌, ℕ, zero, length};
+ghost use Rattle.std.specs.Prelude.{◌≡◌, ◌≤◌, ◌<◌, ◌-◌, ℕ, zero, length, IfOk};
 ghost use Rattle.codestream_model.specs.StuffedBits.{packed_bits};
 ghost use Rattle.codestream_model.specs.PacketHeaderReading.{read_bit, read_number, read_inclusion, read_planes};
 ghost use Rattle.tag_tree.specs.LeafReading.{IsSameShape};
 ghost use Rattle.packet_header.specs.Standing.{Stands, given_by, left};
 ghost use Rattle.packet_header.specs.Answers.{bit_answer, number_answer, leaf_answer};
 ghost use Rattle.packet_header.specs.Reads.{Reads};
+ghost use Rattle.packet_header.specs.Runs.{run_answer, ReadsRun};
 ghost use Rattle.packet_header.specs.Trees.{ReadsLeafBy};
 ghost use Rattle.packet_header.specs.Closing.{closes};
 
 use crate::refusal::{HeaderWhy, Stop};
-use stuffed_bits::{BitIn, BitOut, NumberOut};
+use stuffed_bits::{BitIn, BitOut, NumberOut, RunOut};
 use tag_tree::{Tree, TreeOut};
 
 /// A reader of the bits of bytes.
@@ -52,6 +53,15 @@ impl<'a> Source<'a> {
         ensures { Reads (read_number width (left self.old)) self.old self.new result }
     {
         number_of(self.bits.number(width, self.piece, &mut self.at))
+    }
+
+    /// Reads a run of bits of one kind, and the bit that ends it; where it has `most` bits, only these.
+    pub fn run(&mut self, of: bool, most: u8) -> Result<u8, Stop>
+        requires { Stands self.old }
+        ensures read { ReadsRun of most self.old self.new result }
+        ensures few { IfOk result (λ n. n ≤ most) }
+    {
+        run_of(self.bits.run(of, most, self.piece, &mut self.at))
     }
 
     /// Reads a leaf of an inclusion tree: 0 where it is included, else 1.
@@ -107,6 +117,17 @@ fn number_of(out: NumberOut) -> Result<u32, Stop>
         NumberOut::Number(number) => Ok(number),
         NumberOut::Need => Err(Stop::Need),
         NumberOut::Stuffed => Err(Stop::Bad(HeaderWhy::Stuffed)),
+    }
+}
+
+/// How many bits of a run were read, or what stopped it.
+fn run_of(out: RunOut) -> Result<u8, Stop>
+    ensures { result ≡ run_answer out }
+{
+    match out {
+        RunOut::Run(count) => Ok(count),
+        RunOut::Need => Err(Stop::Need),
+        RunOut::Stuffed => Err(Stop::Bad(HeaderWhy::Stuffed)),
     }
 }
 
