@@ -2,10 +2,9 @@
 use Rattle.std.proofs.Common.{◌≡◌, ◌<◌, ◌≤◌, ◌+◌, ◌-◌, ◌*◌, ◌^◌, ℕ, Bool, true, false, List, [], ◌∷◌, ◌++◌, length, drop, nat_le, Option, Some, None, refl, sym, ◌∙◌, ap, subst, arith, append_assoc}
 use Rattle.std.specs.List.{slice_range}
 use Rattle.std.proofs.lemmas.Bool.{le-leb, lt-leb}
-use Rattle.std.proofs.lemmas.List.{append-nil, length-append, length-drop, drop_at}
-use Rattle.codestream_model.specs.StuffedBits.{number_bits, carried_after, sound_after, packed_bits}
+use Rattle.std.proofs.lemmas.List.{append-nil, length-append, length-drop}
+use Rattle.codestream_model.specs.StuffedBits.{number_bits, packed_bits}
 use Rattle.codestream_model.proofs.BitLemmas.{number_bits-length, number_of_bits}
-use Rattle.stuffed_bits.specs.Stands.{before_next}
 use Rattle.stuffed_bits.specs.Hand.{Hand}
 use Rattle.stuffed_bits.specs.BitsRead.{HasRead, answer_by, answer_after}
 use Rattle.stuffed_bits.specs.NumbersRead.{number_after}

@@ -7,7 +7,7 @@ use Rattle.std.proofs.Math.Nat.{div-div-eq-div-mul, mul-le-mul_right, mod-lt, mo
 use Rattle.codestream_model.specs.Bytes.{IsBytes}
 use Rattle.codestream_model.specs.StuffedBits.{number_bits, width_after}
 use Rattle.codestream_model.proofs.BitLemmas.{higher_bits, number_bits-length}
-use Rattle.stuffed_bits.specs.Stands.{StandIn, last_from, last_of, before_next, Begun}
+use Rattle.stuffed_bits.specs.Stands.{StandIn, last_from, before_next, Begun}
 use Rattle.stuffed_bits.specs.Hand.{Hand}
 use Rattle.stuffed_bits.specs.BitsRead.{HasRead, HasBegun, next_of}
 use Rattle.stuffed_bits.specs.NumbersRead.{high_part}

@@ -9,12 +9,12 @@ use Rattle.codestream_model.specs.StuffedBits.{IsStuffed, number_bits, width_aft
 use Rattle.codestream_model.proofs.PackingLemmas.{last_after, carried-append, width_cases}
 use Rattle.codestream_model.proofs.HeaderLemmas.{stuffed_tail, bytes_reached}
 use Rattle.codestream_model.proofs.OneWayLemmas.{same_front}
-use Rattle.stuffed_bits.specs.Stands.{last_from, last_of, before_next, StandIn, Begun}
+use Rattle.stuffed_bits.specs.Stands.{last_from, last_of, before_next}
 use Rattle.stuffed_bits.specs.Hand.{Hand}
-use Rattle.stuffed_bits.specs.BitsRead.{HasRead, answer_after, next_of, first_of_hand}
+use Rattle.stuffed_bits.specs.BitsRead.{HasRead, answer_after, next_of}
 use Rattle.stuffed_bits.specs.declared.bit_in.BitOut.TheVariants.{Bit, Need, Stuffed}
 use Rattle.stuffed_bits.specs.declared.bit_in.Next.TheVariants.{Byte, Need as NoByte, Stuffed as Broken}
-use Rattle.stuffed_bits.proofs.StandLemmas.{same_last, before_last, last-push, last_of-push, bytes-push, stuffed-push, stuffed_less, none_begun, begins, takes}
+use Rattle.stuffed_bits.proofs.StandLemmas.{same_last, before_last, last-push, bytes-push, stuffed-push, stuffed_less}
 use Rattle.stuffed_bits.proofs.RangeLemmas.{range_and_rest}
 use Rattle.stuffed_bits.proofs.PackedLemmas.{packs_where_closed, reach_of}
 

@@ -1,5 +1,5 @@
 -- A run is that of the bits that are left, in parts; where they end before it does, none is answered.
-use Rattle.std.proofs.Common.{◌≡◌, ◌<◌, ◌≤◌, ◌+◌, ◌++◌, ℕ, suc, Bool, true, false, not, List, [], ◌∷◌, length, drop, replicate, nat_lt, Option, Some, None, IsSome, refl, sym, ◌∙◌, ap, subst, rules, arith, append_assoc, if◌then◌else◌}
+use Rattle.std.proofs.Common.{◌≡◌, ◌<◌, ◌≤◌, ◌+◌, ◌++◌, ℕ, suc, Bool, true, false, not, List, [], ◌∷◌, length, drop, replicate, nat_lt, Option, Some, None, IsSome, sym, ◌∙◌, ap, subst, rules, arith, append_assoc}
 use Rattle.std.specs.List.{slice_range}
 use Rattle.std.proofs.lemmas.Bool.{le-leb, lt-leb}
 use Rattle.std.proofs.lemmas.List.{append-nil, replicate-append-replicate}

@@ -1,6 +1,6 @@
 -- What a reader of bits answers where a number of several bits is read.
-use Rattle.std.specs.Prelude.{◌≡◌, ◌<◌, ◌≤◌, ◌-◌, ◌/◌, ◌%◌, ◌^◌, ℕ, Bool, List, [], length, drop, nat_le, Option, Some, None, if◌then◌else◌}
-use Rattle.codestream_model.specs.StuffedBits.{BitRun, number_bits, number_of}
+use Rattle.std.specs.Prelude.{◌-◌, ◌/◌, ◌%◌, ◌^◌, ℕ, Bool, List, length, drop, nat_le, Option, Some, None, if◌then◌else◌}
+use Rattle.codestream_model.specs.StuffedBits.{BitRun, number_of}
 use Rattle.stuffed_bits.specs.declared.numbers.NumberOut.{NumberOut}
 use Rattle.stuffed_bits.specs.declared.numbers.NumberOut.TheVariants.{Number, Need, Stuffed}
 

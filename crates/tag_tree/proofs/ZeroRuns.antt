@@ -1,10 +1,10 @@
 -- A label is read of a run of zeros.
-use Rattle.std.proofs.Common.{◌≡◌, ◌≢◌, ◌<◌, ◌≤◌, ◌+◌, ◌-◌, ℕ, zero, suc, Bool, true, false, List, [], ◌∷◌, ◌++◌, drop, replicate, nat_le, nat_lt, Option, Some, None, IsSome, refl, sym, ◌∙◌, ap, subst, arith, append_assoc, if◌then◌else◌}
+use Rattle.std.proofs.Common.{◌≡◌, ◌<◌, ◌≤◌, ◌+◌, ◌-◌, ℕ, zero, suc, Bool, true, false, List, [], ◌∷◌, ◌++◌, replicate, nat_le, nat_lt, Option, Some, None, IsSome, refl, sym, ◌∙◌, ap, subst, arith, append_assoc}
 use Rattle.std.proofs.lemmas.Bool.{le-leb, lt-leb}
 use Rattle.std.proofs.lemmas.List.{append-nil}
 use Rattle.codestream_model.specs.StuffedBits.{packed_bits}
 use Rattle.codestream_model.specs.HeaderPieces.{ZeroPlanes}
-use Rattle.codestream_model.specs.PacketHeaderReading.{Read, Got, AtEnd, Refused, unless, read_label}
+use Rattle.codestream_model.specs.PacketHeaderReading.{Read, Got, AtEnd, Refused, read_label}
 use Rattle.stuffed_bits.specs.Hand.{Hand}
 use Rattle.stuffed_bits.specs.BitsRead.{HasRead}
 use Rattle.stuffed_bits.specs.RunsRead.{run_bits, IsShort}

@@ -1,8 +1,5 @@
 -- The leading zeros tell the first run.
-use Rattle.std.proofs.Common.{◌≡◌, ◌≤◌, ◌-◌, ℕ, subst, sym}
-use Rattle.codestream_model.specs.StuffedBits.{number_bits}
-use Rattle.stuffed_bits.specs.RunsRead.{BeginsWith}
-use Rattle.stuffed_bits.proofs.FirstRuns.{Tells, leading_tells}
+use Rattle.stuffed_bits.proofs.FirstRuns.{leading_tells}
 use Rattle.stuffed_bits.proofs.runs.first_run.Goals as goal
 
 pub overflow_sub-result : goal.overflow_sub-result

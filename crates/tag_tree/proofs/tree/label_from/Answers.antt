@@ -1,5 +1,5 @@
 -- A label is read of a run of zeros.
-use Rattle.std.proofs.Common.{◌≡◌, ◌+◌, ◌-◌, ◌++◌, drop, refl, sym, arith}
+use Rattle.std.proofs.Common.{◌≡◌, ◌+◌, ◌-◌, ◌++◌, drop, refl, arith}
 use Rattle.std.specs.List.{slice_range}
 use Rattle.codestream_model.specs.StuffedBits.{packed_bits}
 use Rattle.tag_tree.proofs.ZeroRuns.{label_short, label_found, label_too_great, needs, breaks}

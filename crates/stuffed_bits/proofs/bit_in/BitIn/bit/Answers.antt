@@ -1,8 +1,8 @@
 -- The next bit is the first in hand.
-use Rattle.std.proofs.Common.{◌≡◌, ◌<◌, ◌-◌, ◌++◌, ℕ, Bool, List, [], ◌∷◌, sym, arith}
+use Rattle.std.proofs.Common.{◌<◌, ◌-◌, ◌++◌, [], ◌∷◌, sym, arith}
 use Rattle.std.specs.List.{slice_range}
 use Rattle.stuffed_bits.specs.Stands.{before_next}
-use Rattle.stuffed_bits.specs.BitsRead.{HasRead, first_of_hand}
+use Rattle.stuffed_bits.specs.BitsRead.{first_of_hand}
 use Rattle.stuffed_bits.proofs.ReadLemmas.{first_bit, bit_is}
 use Rattle.stuffed_bits.proofs.PartLemmas.{gives_front}
 use Rattle.stuffed_bits.proofs.bit_in.BitIn.bit.Goals as goal

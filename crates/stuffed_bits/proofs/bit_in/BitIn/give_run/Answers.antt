@@ -1,5 +1,5 @@
 -- A run is that of the bits in hand, or a part of it.
-use Rattle.std.proofs.Common.{◌≡◌, ◌<◌, ◌≤◌, ◌-◌, ◌+◌, ◌++◌, ℕ, Bool, not, List, [], ◌∷◌, length, replicate, sym, ap, subst, arith}
+use Rattle.std.proofs.Common.{◌≡◌, ◌<◌, ◌-◌, ◌+◌, ◌++◌, not, [], ◌∷◌, replicate, sym, ap, subst, arith}
 use Rattle.std.proofs.lemmas.List.{length-append, length-replicate}
 use Rattle.codestream_model.specs.StuffedBits.{number_bits}
 use Rattle.stuffed_bits.specs.Stands.{before_next}

@@ -1,5 +1,5 @@
 -- A bit of the byte in hand, or of the next one.
-use Rattle.std.proofs.Common.{◌≡◌, ◌<◌, ℕ, drop, sym, ◌∙◌, ap, arith}
+use Rattle.std.proofs.Common.{◌≡◌, ℕ, drop, sym, ◌∙◌, ap, arith}
 use Rattle.codestream_model.specs.Bytes.{IsBytes}
 use Rattle.codestream_model.specs.StuffedBits.{width_after}
 use Rattle.stuffed_bits.specs.Stands.{before_next}

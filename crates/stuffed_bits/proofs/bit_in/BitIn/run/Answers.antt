@@ -1,5 +1,5 @@
 -- A run, part by part.
-use Rattle.std.proofs.Common.{◌≡◌, ◌<◌, ◌≤◌, ◌+◌, ◌++◌, ℕ, Bool, List, replicate, refl, subst, sym, arith}
+use Rattle.std.proofs.Common.{◌≡◌, ◌<◌, ◌+◌, ◌++◌, Bool, List, replicate, refl, subst, arith}
 use Rattle.std.specs.List.{slice_range}
 use Rattle.stuffed_bits.specs.BitsRead.{HasRead}
 use Rattle.stuffed_bits.specs.RunsRead.{run_bits}
