@@ -1,9 +1,9 @@
 -- Numbers in parts, and that a reader that has begun a byte gives a part of its bits.
 use Rattle.std.proofs.Common.{◌≡◌, ◌<◌, ◌≤◌, ◌+◌, ◌-◌, ◌*◌, ◌/◌, ◌%◌, ◌^◌, ◌==◌, ℕ, zero, suc, Bool, List, [], ◌∷◌, ◌++◌, length, drop, Some, refl, sym, ◌∙◌, ap, subst, arith, append_assoc}
 use Rattle.std.specs.List.{slice_range}
-use Rattle.std.proofs.lemmas.Nat.{pow_pos, pow-add, div-mul-add, div-add-mod'}
+use Rattle.std.proofs.lemmas.Nat.{pow-add, div-mul-add, div-add-mod'}
 use Rattle.std.proofs.lemmas.List.{length-append}
-use Rattle.std.proofs.Math.Nat.{div-div-eq-div-mul, mul-le-mul_right, mod-lt, mod-eq_of_lt, pow-le-pow_right}
+use Rattle.std.proofs.Math.Nat.{div-div-eq-div-mul, mul-le-mul_right, mod-eq_of_lt, pow-le-pow_right}
 use Rattle.codestream_model.specs.Bytes.{IsBytes}
 use Rattle.codestream_model.specs.StuffedBits.{number_bits, width_after}
 use Rattle.codestream_model.proofs.BitLemmas.{higher_bits, number_bits-length}
@@ -12,7 +12,7 @@ use Rattle.stuffed_bits.specs.Hand.{Hand}
 use Rattle.stuffed_bits.specs.BitsRead.{HasRead, HasBegun, next_of}
 use Rattle.stuffed_bits.specs.NumbersRead.{high_part}
 use Rattle.stuffed_bits.specs.declared.bit_in.Next.TheVariants.{Byte}
-use Rattle.stuffed_bits.proofs.StandLemmas.{before_last, last_of-push, none_begun, begins}
+use Rattle.stuffed_bits.proofs.StandLemmas.{before_last, last_of-push, begins}
 use Rattle.stuffed_bits.proofs.ReadLemmas.{byte_next, byte_of_piece, range_one, took}
 
 -- the bits of a number, in two parts
@@ -64,14 +64,6 @@ hand_bits k left v h =
     let whole : (v / 2 ^ j) / 2 ^ k * 2 ^ k + v / 2 ^ j % 2 ^ k ≡ v / 2 ^ j = div-add-mod' (v / 2 ^ j) (2 ^ k) in
     let low : number_bits k (v / 2 ^ j) ≡ number_bits k (high_part k left v) = ap (number_bits k) (sym whole) ∙ above k ((v / 2 ^ j) / 2 ^ k) (v / 2 ^ j % 2 ^ k) in
     ap (λ (n : ℕ). number_bits n v) s ∙ (split_bits j k v ∙ ap (λ (l : List Bool). l ++ number_bits j v) low)
-
--- a part fits its bits
-pub part_small : (k left v : ℕ) → high_part k left v < 2 ^ k
-part_small k left v = mod-lt (v / 2 ^ (left - k)) (pow_pos k)
-
--- no byte was begun
-pub begun_before : (bits : List Bool) (bytes : List ℕ) (h : Hand) → HasRead bits bytes h → HasBegun bits bytes h
-begun_before bits bytes h r = record { last = r.last; begun = none_begun bits (number_bits h.left (before_next h.last)) bytes r.stands }
 
 -- the next byte is begun
 pub begins_next : (bits : List Bool) (bytes : List ℕ) (h : Hand) (b : ℕ) → h.left ≡ 0 → b < 256 → (before_next h.last ≡ 255 → b < 128) → HasRead bits bytes h

@@ -6,7 +6,7 @@ use Rattle.std.proofs.lemmas.Bool.Decides.{eqb_tells}
 use Rattle.std.proofs.lemmas.List.{append-nil, length-append, drop_at, get_or-drop, nil_from_length}
 use Rattle.codestream_model.specs.Bytes.{IsBytes}
 use Rattle.codestream_model.specs.StuffedBits.{IsStuffed, number_bits, width_after, carried_after, carried, sound_after, packed_bits, closing_after, Packs, bytes_of_bits}
-use Rattle.codestream_model.proofs.PackingLemmas.{last_after, carried-append, width_cases}
+use Rattle.codestream_model.proofs.PackingLemmas.{last_after, carried-append}
 use Rattle.codestream_model.proofs.HeaderLemmas.{stuffed_tail, bytes_reached}
 use Rattle.codestream_model.proofs.OneWayLemmas.{same_front}
 use Rattle.stuffed_bits.specs.Stands.{last_from, last_of, before_next}
@@ -23,10 +23,6 @@ pub first_bit : (n v : ℕ) → 0 < n → number_bits n v ≡ (v / 2 ^ (n - 1) %
 unfolding number_bits
 first_bit zero v h = absurd (omega arith)
 first_bit (suc n) v h = let e : suc n - 1 ≡ n = omega arith in rw e refl
-
--- a byte carries some bits
-pub width_some : (before : ℕ) → 0 < width_after before
-width_some before = elim (width_cases before) [ inl t ↦ omega (arith, t.1) | inr t ↦ omega (arith, t.1) ]
 
 -- what is in hand behind a byte that was just taken
 abbrev pub took : ℕ → ℕ → Hand
