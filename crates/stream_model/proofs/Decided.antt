@@ -33,7 +33,7 @@ base_of_all (suc n) window some =
     omega arith
 
 -- a position that arrived is in time or it isn't, whatever follows
-decided_seen : (events more : List ℕ) (i window : ℕ) → has_arrived events i ≡ true → in_time (events ++ more) i window ≡ in_time events i window
+pub decided_seen : (events more : List ℕ) (i window : ℕ) → has_arrived events i ≡ true → in_time (events ++ more) i window ≡ in_time events i window
 decided_seen events more i window seen =
     rw (arrived-append events more i, seen, first-append events more i seen, clear_seen i window events more seen)
     refl

@@ -143,7 +143,7 @@ all_reached i main (s ∷ sent) =
     ∙ ap (λ l. precincts_in s ++ l) (all_reached (i + 1) (main + length (datagrams_of s)) sent)
 
 -- as many datagrams as frames
-zip_length : (xs : List Datagram) (frames : List (List ℕ)) → AllZip IsDatagram xs frames → length xs ≡ length frames
+pub zip_length : (xs : List Datagram) (frames : List (List ℕ)) → AllZip IsDatagram xs frames → length xs ≡ length frames
 zip_length [] [] a = refl
 zip_length [] (f ∷ frames) a = absurd a
 zip_length (x ∷ xs) [] a = absurd a

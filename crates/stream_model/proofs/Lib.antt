@@ -49,3 +49,9 @@ pub mod RunBegun
 pub mod RunStream
 pub mod RunLaws
 pub mod InOrderReceived
+pub mod WindowSteps
+pub mod WindowDrains
+pub mod ArrivalSteps
+pub mod ReceiverSteps
+pub mod ReceiverRuns
+pub mod ReceiverLaws

@@ -1,10 +1,12 @@
 -- What is promised of a receiver's rules where the frames are datagrams of a stream.
-use Rattle.std.specs.Prelude.{◌≡◌, ◌≤◌, ◌⊎◌, List, ℕ, length, Some, None}
+use Rattle.std.specs.Prelude.{◌≡◌, ◌≤◌, ◌⊎◌, ◌+◌, ◌%◌, ◌^◌, ◌&&◌, List, ℕ, length, nat_lt, Some, None}
 use Rattle.std.specs.List.{AllByRecursion, flat_map}
 use Rattle.codestream_model.specs.Bytes.{IsBytes}
 use Rattle.stream_model.specs.Stream.{Sent, Carry}
 use Rattle.stream_model.specs.Receiver.{Pick, received, flushed, counts_of}
-use Rattle.stream_model.specs.RunLaws.{precincts_in}
+use Rattle.stream_model.specs.Arrivals.{picked, Arrive, in_time, base}
+use Rattle.stream_model.specs.EndCounts.{end_counts}
+use Rattle.stream_model.specs.RunLaws.{precincts_in, reached_in}
 
 -- Where the frames are the datagrams of a stream in order, each once, and are picked, the rules give every precinct of its
 -- codestreams, each once, in order and with its content, before the end and at the end, whatever the window; all frames are
@@ -16,3 +18,22 @@ InOrderGivesAll =
     → ((received pick datagrams).precincts ≡ flat_map precincts_in sent)
     × ((flushed (received pick datagrams)).precincts ≡ flat_map precincts_in sent)
     × (counts_of (flushed (received pick datagrams)) ≡ record { kept = length datagrams; old = 0; refused = 0; unsupported = 0; disagreed = 0; broken = 0 })
+
+-- Whatever datagrams of a stream are lost, thinned away, repeated or reordered, and whatever other frames stand between them: before
+-- the end the rules have given the precincts that are reached by what is in time and below the base, and at the end those that are
+-- reached by what is in time, each once, by codestream and then in the packet order, with its content; and the counts are those of
+-- the arrivals.
+abbrev pub GivesWhatIsReached : Type 0
+GivesWhatIsReached =
+    (sent : List Sent) (codestreams datagrams frames : List (List ℕ)) (events : List ℕ) (pick : Pick) → Carry sent codestreams datagrams → AllByRecursion IsBytes codestreams
+    → 1 ≤ pick.window → Arrive datagrams (picked pick.kind pick.source frames) events
+    → ((received pick frames).precincts ≡ reached_in (λ i. in_time events i pick.window && nat_lt i (base events pick.window)) sent)
+    × ((flushed (received pick frames)).precincts ≡ reached_in (λ i. in_time events i pick.window) sent)
+    × (counts_of (flushed (received pick frames)) ≡ end_counts frames events pick.window)
+
+-- the window's next number is that of the base, and nothing is due, after each arrival
+abbrev pub WindowIsAtBase : Type 0
+WindowIsAtBase =
+    (sent : List Sent) (codestreams datagrams frames : List (List ℕ)) (events : List ℕ) (pick : Pick) → (c : Carry sent codestreams datagrams)
+    → 1 ≤ pick.window → Arrive datagrams (picked pick.kind pick.source frames) events → 1 ≤ length events
+    → ((received pick frames).window.base ≡ Some ((c.number + base events pick.window) % 2 ^ 24)) × ((received pick frames).window.due ≡ 0)

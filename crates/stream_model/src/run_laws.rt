@@ -1,7 +1,7 @@
 //! The laws of what a receiver gives of a stream, each on a function that does nothing.
 
 ghost use Rattle.stream_model.specs.RunLaws.{RunsGiveWhatIsReached};
-ghost use Rattle.stream_model.specs.StreamLaws.{InOrderGivesAll};
+ghost use Rattle.stream_model.specs.StreamLaws.{InOrderGivesAll, GivesWhatIsReached, WindowIsAtBase};
 
 /// Whichever datagrams of a stream are there, the rules give exactly the precincts that are reached, in order and with their content.
 pub fn runs_give_what_is_reached()
@@ -11,4 +11,14 @@ pub fn runs_give_what_is_reached()
 /// Without loss and in order the rules give every precinct, whatever the window.
 pub fn in_order_gives_all()
     ensures { InOrderGivesAll }
+{}
+
+/// Whatever arrives of a stream, the rules give what is reached, and the counts are those of the arrivals.
+pub fn gives_what_is_reached()
+    ensures { GivesWhatIsReached }
+{}
+
+/// The window's next number is that of the base, and nothing is due, after each arrival.
+pub fn window_is_at_base()
+    ensures { WindowIsAtBase }
 {}
