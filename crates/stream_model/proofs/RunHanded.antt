@@ -33,7 +33,7 @@ pub joined_marked : (d0 : Decoder) (s : Sent) (run : Option (List Place)) (bytes
 joined_marked d0 s run bytes x g p e o f = let same : (s.stamp == x.rtp.stamp) ≡ true = eq-eqb s.stamp x.rtp.stamp e in rw (same, o, f) refl
 
 -- the mark of a Body
-none_own : (i at : ℕ) (h : PayloadFields) (g : BodyFields) → h ≡ Body g → g.ordb ≡ false → mark_of i at h ≡ []
+pub none_own : (i at : ℕ) (h : PayloadFields) (g : BodyFields) → h ≡ Body g → g.ordb ≡ false → mark_of i at h ≡ []
 none_own i at h g e o = ap (mark_of i at) e ∙ rw o refl
 
 abbrev pub own_mark : ℕ → ℕ → BodyFields → Mark

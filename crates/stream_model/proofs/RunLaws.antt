@@ -91,7 +91,7 @@ all_fed d main there (s ∷ sent) whole apart other =
     )
 
 -- each is a datagram in some bytes
-have_bytes : (xs : List Datagram) (datagrams : List (List ℕ)) → AllZip IsDatagram xs datagrams → AllByRecursion (λ x. (b : List ℕ) × IsDatagram x b) xs
+pub have_bytes : (xs : List Datagram) (datagrams : List (List ℕ)) → AllZip IsDatagram xs datagrams → AllByRecursion (λ x. (b : List ℕ) × IsDatagram x b) xs
 have_bytes [] datagrams a = tt
 have_bytes (x ∷ xs) [] a = absurd a
 have_bytes (x ∷ xs) (b ∷ datagrams) a = ((b, a.0), have_bytes xs datagrams a.1)

@@ -34,7 +34,7 @@ abbrev precinct_of : Head → ℕ → Place → Content → Precinct
 precinct_of h stamp p x = record { stamp = stamp; pid = pid h p; place = p; blocks = x.blocks; bytes = x.bytes }
 
 -- all of a range pass,
-range_all : (t : ℕ → Bool) (a n : ℕ) → ((i : ℕ) → a ≤ i → i < a + n → t i ≡ true) → list_all t (range_with_len a n) ≡ true
+pub range_all : (t : ℕ → Bool) (a n : ℕ) → ((i : ℕ) → a ≤ i → i < a + n → t i ≡ true) → list_all t (range_with_len a n) ≡ true
 range_all t a zero h = refl
 range_all t a (suc n) h = let e = h a (omega arith) (omega arith) in rw e (range_all t (a + 1) n (λ i low high. h i (omega arith) (omega arith)))
 
@@ -42,7 +42,7 @@ range_all t a (suc n) h = let e = h a (omega arith) (omega arith) in rw e (range
 first_fails : (b c : Bool) → b ≡ false → (b && c) ≡ false
 first_fails b c e = rw e refl
 
-second_fails : (b c : Bool) → c ≡ false → (b && c) ≡ false
+pub second_fails : (b c : Bool) → c ≡ false → (b && c) ≡ false
 second_fails true c e = e
 second_fails false c e = refl
 

@@ -1,12 +1,15 @@
 -- What is promised of a receiver's rules where the frames are datagrams of a stream.
-use Rattle.std.specs.Prelude.{◌≡◌, ◌≤◌, ◌⊎◌, ◌+◌, ◌%◌, ◌^◌, ◌&&◌, List, ℕ, length, nat_lt, Some, None}
+use Rattle.std.specs.Prelude.{◌≡◌, ◌≤◌, ◌⊎◌, ◌+◌, ◌%◌, ◌^◌, ◌==◌, ◌&&◌, List, [], ◌∷◌, ℕ, length, nat_lt, Some, None, if◌then◌else◌}
 use Rattle.std.specs.List.{AllByRecursion, flat_map}
 use Rattle.codestream_model.specs.Bytes.{IsBytes}
-use Rattle.stream_model.specs.Stream.{Sent, Carry}
+use Rattle.stream_model.specs.Stream.{Sent, Carry, carried}
+use Rattle.stream_model.specs.Reached.{StreamPrecinct, due, due_at_end}
+use Rattle.stream_model.specs.Report.{Precinct}
+use Rattle.stream_model.specs.Laws.{all_precincts}
 use Rattle.stream_model.specs.Receiver.{Pick, received, flushed, counts_of}
 use Rattle.stream_model.specs.Arrivals.{picked, Arrive, in_time, base}
 use Rattle.stream_model.specs.EndCounts.{end_counts}
-use Rattle.stream_model.specs.RunLaws.{precincts_in, reached_in}
+use Rattle.stream_model.specs.RunLaws.{passing, precincts_in, reached_in}
 
 -- Where the frames are the datagrams of a stream in order, each once, and are picked, the rules give every precinct of its
 -- codestreams, each once, in order and with its content, before the end and at the end, whatever the window; all frames are
@@ -18,6 +21,16 @@ InOrderGivesAll =
     → ((received pick datagrams).precincts ≡ flat_map precincts_in sent)
     × ((flushed (received pick datagrams)).precincts ≡ flat_map precincts_in sent)
     × (counts_of (flushed (received pick datagrams)) ≡ record { kept = length datagrams; old = 0; refused = 0; unsupported = 0; disagreed = 0; broken = 0 })
+
+-- what a precinct of a stream says: it is that of its number in the codestream that has its stamp
+abbrev pub said_by : List Sent → StreamPrecinct → List Precinct
+said_by sent x = flat_map (λ s. if s.stamp == x.stamp then passing (λ k. k == x.precinct) 0 (precincts_in s) else []) sent
+
+-- each precinct of a stream says one thing
+abbrev pub EachPrecinctIsSaid : Type 0
+EachPrecinctIsSaid =
+    (sent : List Sent) (codestreams datagrams : List (List ℕ)) → Carry sent codestreams datagrams
+    → AllByRecursion (λ x. (p : Precinct) × (said_by sent x ≡ p ∷ []) × (p.stamp ≡ x.stamp)) (all_precincts (carried sent))
 
 -- Whatever datagrams of a stream are lost, thinned away, repeated or reordered, and whatever other frames stand between them: before
 -- the end the rules have given the precincts that are reached by what is in time and below the base, and at the end those that are
@@ -37,3 +50,13 @@ WindowIsAtBase =
     (sent : List Sent) (codestreams datagrams frames : List (List ℕ)) (events : List ℕ) (pick : Pick) → (c : Carry sent codestreams datagrams)
     → 1 ≤ pick.window → Arrive datagrams (picked pick.kind pick.source frames) events → 1 ≤ length events
     → ((received pick frames).window.base ≡ Some ((c.number + base events pick.window) % 2 ^ 24)) × ((received pick frames).window.due ≡ 0)
+
+-- The same in the words of `due`: before the end the rules have given what is due, and at the end what is due at the end, each
+-- precinct with its content.
+abbrev pub GivesWhatIsDue : Type 0
+GivesWhatIsDue =
+    (sent : List Sent) (codestreams datagrams frames : List (List ℕ)) (events : List ℕ) (pick : Pick) → Carry sent codestreams datagrams → AllByRecursion IsBytes codestreams
+    → 1 ≤ pick.window → Arrive datagrams (picked pick.kind pick.source frames) events
+    → ((received pick frames).precincts ≡ flat_map (said_by sent) (due events pick.window (carried sent)))
+    × ((flushed (received pick frames)).precincts ≡ flat_map (said_by sent) (due_at_end events pick.window (carried sent)))
+    × (counts_of (flushed (received pick frames)) ≡ end_counts frames events pick.window)
