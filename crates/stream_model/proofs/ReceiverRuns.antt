@@ -2,6 +2,7 @@
 use Rattle.std.proofs.Common.{◌≡◌, ◌⊎◌, ◌<◌, ◌≤◌, ◌+◌, ◌-◌, ◌*◌, ◌==◌, ◌&&◌, ◌||◌, ℕ, zero, suc, max, Bool, true, false, cond, List, [], ◌∷◌, ◌++◌, map, length, Option, Some, None, subst, refl, sym, ◌∙◌, ap, inl, inr, arith, append_assoc, if◌then◌else◌}
 use Rattle.std.specs.Prelude.{slice_index}
 use Rattle.std.specs.List.{AllByRecursion, filter, fold, range_with_len}
+use Rattle.std.proofs.lemmas.Bool.{cases_lt}
 use Rattle.std.proofs.lemmas.Bool.Decides.{eqb_tells}
 use Rattle.std.proofs.lemmas.List.{append-nil}
 use Rattle.wire_model.specs.Datagram.{Datagram, IsDatagram, datagram_of}
@@ -17,7 +18,7 @@ use Rattle.stream_model.specs.Receiver.{Pick, Receiver, drained, drain, keep, of
 use Rattle.stream_model.specs.RunLaws.{fed}
 use Rattle.stream_model.proofs.DueGrows.{none_left}
 use Rattle.stream_model.proofs.WindowSteps.{num, held_at, mem, window_at, ahead_is}
-use Rattle.stream_model.proofs.WindowDrains.{items}
+use Rattle.stream_model.proofs.WindowDrains.{items, mem_all}
 use Rattle.stream_model.proofs.ArrivalSteps.{not_arrived, alone, base_is, one_more, none_of}
 use Rattle.stream_model.proofs.ReceiverSteps.{Holding, holding_as, HasCounts, keep_holding, due_holding, Stepped, step_on}
 
@@ -235,17 +236,34 @@ due_reaches b m i (j ∷ hs) t = elim (eqb_tells j i) [
   | inr e ↦ due_reaches b (max m (j - b + 1)) i hs (let f : (false || mem hs i) ≡ true = rw e.0 at t in f)
 ]
 
+-- the second of two holds
+either_holds : (a c : Bool) → c ≡ true → (a || c) ≡ true
+either_holds true c e = refl
+either_holds false c e = e
+
+-- what is due is nothing, or reaches up to one that is held
+due_is : (b m : ℕ) (hs : List ℕ) → (fold max m (map (λ j. j - b + 1) hs) ≡ m) ⊎ ((i : ℕ) × (mem hs i ≡ true) × (i - b + 1 ≡ fold max m (map (λ j. j - b + 1) hs)))
+due_is b m [] = inl refl
+due_is b m (j ∷ hs) = elim (due_is b (max m (j - b + 1)) hs) [
+  | inr (i, t, e) ↦ inr (i, either_holds (j == i) (mem hs i) t, e)
+  | inl e ↦ elim (cases_lt m (j - b + 1)) [
+    | inl less ↦ let s = same_number j in inr (j, rw s refl, omega (arith, e, less))
+    | inr most ↦ inl (omega (arith, e, most))
+  ]
+]
+
 -- what is known at the end: the decoder was fed all positions up to one behind which nothing is there
-pub record AtEnd (dg : ℕ → Datagram) (end : ℕ) (there : ℕ → Bool) (r s : Receiver) : Type 0 where
+pub record AtEnd (dg : ℕ → Datagram) (end b : ℕ) (there : ℕ → Bool) (r s : Receiver) : Type 0 where
   pub q : ℕ
   pub within : q ≤ end
   pub none : (i : ℕ) → q ≤ i → there i ≡ false
+  pub least : (top : ℕ) → b ≤ top → ((i : ℕ) → top ≤ i → there i ≡ false) → q ≤ top
   pub decoder : s.decoder ≡ (fed at_start (items there dg 0 q)).decoder
   pub precincts : s.precincts ≡ (fed at_start (items there dg 0 q)).precincts
   pub counts : HasCounts r.kept r s
 
 -- the flush
-pub flush_known : (number : ℕ) (dg : ℕ → Datagram) (end b : ℕ) (there : ℕ → Bool) (r : Receiver) → Holding number dg end b there r → end < 8388608 → AtEnd dg end there r (flushed r)
+pub flush_known : (number : ℕ) (dg : ℕ → Datagram) (end b : ℕ) (there : ℕ → Bool) (r : Receiver) → Holding number dg end b there r → end < 8388608 → AtEnd dg end b there r (flushed r)
 flush_known number dg end b there r h few =
     let u = due_at b h.hs in
     let s = record r { window = make_all_due r.window r.window.base } in
@@ -257,6 +275,20 @@ flush_known number dg end b there r h few =
       none = λ i low. elim (either (there i)) [
         | inr t ↦ t
         | inl t ↦ absurd (let m = due_reaches b 0 i h.hs (h.same i (omega (arith, d.1, low)) ∙ t) in omega (arith, m, d.1, low))
+      ];
+      least = λ top low free. elim (cases_lt top d.0) [
+        | inr t ↦ t
+        | inl t ↦ elim (cases_lt top (b + u)) [
+          | inr above ↦ let yes : there top ≡ true = d.3 top above t in let no : there top ≡ false = free top (omega arith) in absurd (cc)
+          | inl inside ↦ elim (due_is b 0 h.hs) [
+            | inl z ↦ absurd (omega (arith, z, low, inside))
+            | inr (i, m, e) ↦
+                let at_least = mem_all (λ j. (b ≤ j) × (j < end)) h.hs i h.all m in
+                let yes : there i ≡ true = sym (h.same i at_least.0) ∙ m in
+                let no : there i ≡ false = free i (omega (arith, e, inside, at_least.0)) in
+                absurd (cc)
+          ]
+        ]
       ];
       decoder = d.4.decoder;
       precincts = d.4.precincts;

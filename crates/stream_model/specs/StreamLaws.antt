@@ -1,15 +1,17 @@
 -- What is promised of a receiver's rules where the frames are datagrams of a stream.
-use Rattle.std.specs.Prelude.{◌≡◌, ◌≤◌, ◌⊎◌, ◌+◌, ◌%◌, ◌^◌, ◌==◌, ◌&&◌, List, [], ◌∷◌, ℕ, length, nat_lt, Some, None, if◌then◌else◌}
+use Rattle.std.specs.Prelude.{◌≡◌, ◌≤◌, ◌⊎◌, ◌+◌, ◌%◌, ◌^◌, ◌==◌, ◌&&◌, List, [], ◌∷◌, ℕ, length, take, nat_lt, Option, Some, None, if◌then◌else◌}
 use Rattle.std.specs.List.{AllByRecursion, flat_map}
 use Rattle.codestream_model.specs.Bytes.{IsBytes}
-use Rattle.stream_model.specs.Stream.{Sent, Carry, carried}
+use Rattle.stream_model.specs.Stream.{Sent, Carry, carried, datagrams_of}
 use Rattle.stream_model.specs.Reached.{StreamPrecinct, due, due_at_end}
+use Rattle.wire_model.specs.Datagram.{Datagram}
 use Rattle.stream_model.specs.Report.{Precinct}
+use Rattle.stream_model.specs.Decoder.{at_start}
 use Rattle.stream_model.specs.Laws.{all_precincts}
-use Rattle.stream_model.specs.Receiver.{Pick, received, flushed, counts_of}
-use Rattle.stream_model.specs.Arrivals.{picked, Arrive, in_time, base}
+use Rattle.stream_model.specs.Receiver.{Pick, Receiver, received, flushed, counts_of}
+use Rattle.stream_model.specs.Arrivals.{picked, Arrive, highest_arrival, in_time, base}
 use Rattle.stream_model.specs.EndCounts.{end_counts}
-use Rattle.stream_model.specs.RunLaws.{passing, precincts_in, reached_in}
+use Rattle.stream_model.specs.RunLaws.{fed, handed, passing, precincts_in, reached_in}
 
 -- Where the frames are the datagrams of a stream in order, each once, and are picked, the rules give every precinct of its
 -- codestreams, each once, in order and with its content, before the end and at the end, whatever the window; all frames are
@@ -31,6 +33,20 @@ abbrev pub EachPrecinctIsSaid : Type 0
 EachPrecinctIsSaid =
     (sent : List Sent) (codestreams datagrams : List (List ℕ)) → Carry sent codestreams datagrams
     → AllByRecursion (λ x. (p : Precinct) × (said_by sent x ≡ p ∷ []) × (p.stamp ≡ x.stamp)) (all_precincts (carried sent))
+
+-- a receiver has fed its decoder these items, from the start on, and has given the precincts of that
+pub record HasFed (items : List (Option Datagram)) (r : Receiver) : Type 0 where
+  pub precincts : r.precincts ≡ (fed at_start items).precincts
+  pub decoder : r.decoder ≡ (fed at_start items).decoder
+
+-- The window hands on each position of a stream below the base once and in order, its datagram where it is in time and else a gap;
+-- and at the end each position up to the highest arrival.
+abbrev pub HandsOnInOrder : Type 0
+HandsOnInOrder =
+    (sent : List Sent) (codestreams datagrams frames : List (List ℕ)) (events : List ℕ) (pick : Pick) → Carry sent codestreams datagrams
+    → 1 ≤ pick.window → Arrive datagrams (picked pick.kind pick.source frames) events → 1 ≤ length events
+    → HasFed (handed (λ i. in_time events i pick.window) 0 (take (base events pick.window) (flat_map datagrams_of sent))) (received pick frames)
+    × HasFed (handed (λ i. in_time events i pick.window) 0 (take (highest_arrival events + 1) (flat_map datagrams_of sent))) (flushed (received pick frames))
 
 -- Whatever datagrams of a stream are lost, thinned away, repeated or reordered, and whatever other frames stand between them: before
 -- the end the rules have given the precincts that are reached by what is in time and below the base, and at the end those that are

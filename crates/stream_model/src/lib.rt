@@ -28,6 +28,6 @@ pub use receiver_laws::{
     each_frame_is_counted_once, found_is_what_stands, malformed_frames_are_counted_alone,
 };
 pub use run_laws::{
-    each_precinct_is_said, gives_what_is_due, gives_what_is_reached, in_order_gives_all,
-    runs_give_what_is_reached, window_is_at_base,
+    each_precinct_is_said, gives_what_is_due, gives_what_is_reached, hands_on_in_order,
+    in_order_gives_all, runs_give_what_is_reached, window_is_at_base,
 };
