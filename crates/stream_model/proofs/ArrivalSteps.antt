@@ -45,6 +45,7 @@ clear_by : (b c d : Bool) → c ≡ true → d ≡ true → cond b true (c && d)
 clear_by true c d e f = refl
 clear_by false c d e f = rw (e, f) refl
 
+-- by the arrivals one after another
 clear_all : (i window : ℕ) (xs : List ℕ) → list_all (λ x. nat_lt x (i + window)) xs ≡ true → clear i window xs ≡ true
 clear_all i window [] h = refl
 clear_all i window (x ∷ xs) h =
@@ -123,6 +124,7 @@ same_filter t u a (suc n) h =
     ap (λ b. cond b (a ∷ filter t (range_with_len (a + 1) n)) (filter t (range_with_len (a + 1) n))) (h a (omega arith) (omega arith))
     ∙ ap (λ l. cond (u a) (a ∷ l) l) (same_filter t u (a + 1) n (λ i low high. h i (omega arith) (omega arith)))
 
+-- none of a range passes
 pub none_of : (t : ℕ → Bool) (a n : ℕ) → ((i : ℕ) → a ≤ i → t i ≡ false) → AllByRecursion (λ i. t i ≡ false) (range_with_len a n)
 none_of t a zero h = tt
 none_of t a (suc n) h = (h a (omega arith), none_of t (a + 1) n (λ i low. h i (omega arith)))

@@ -29,10 +29,12 @@ same_any : (t u : ResyncPoint → Bool) (rs : List ResyncPoint) → ((r : Resync
 same_any t u [] h = refl
 same_any t u (r ∷ rs) h = let e = h r in let f = same_any t u rs h in rw (e, f) refl
 
+-- on each number of a range
 same_range : (t u : ℕ → Bool) (a n : ℕ) → ((i : ℕ) → a ≤ i → i < a + n → t i ≡ u i) → list_all t (range_with_len a n) ≡ list_all u (range_with_len a n)
 same_range t u a zero h = refl
 same_range t u a (suc n) h = let e = h a (omega arith) (omega arith) in let f = same_range t u (a + 1) n (λ i low high. h i (omega arith) (omega arith)) in rw (e, f) refl
 
+-- and on the numbers of precincts
 same_passing : (t u : ℕ → Bool) (k : ℕ) (xs : List Precinct) → ((j : ℕ) → k ≤ j → j < k + length xs → t j ≡ u j) → passing t k xs ≡ passing u k xs
 same_passing t u k [] h = refl
 same_passing t u k (x ∷ xs) h = let e = h k (omega arith) (omega arith) in let f = same_passing t u (k + 1) xs (λ j low high. h j (omega arith) (omega arith)) in rw (e, f) refl
@@ -41,13 +43,16 @@ same_passing t u k (x ∷ xs) h = let e = h k (omega arith) (omega arith) in let
 abbrev below : List ℕ → ℕ → ℕ → Bool
 below events window i = in_time events i window && nat_lt i (base events window)
 
+-- a test and one that holds
 and_yes : (b c : Bool) → c ≡ true → (b && c) ≡ b
 and_yes true c e = e
 and_yes false c e = refl
 
+-- below the base only time counts
 is_below : (events : List ℕ) (window i : ℕ) → i < base events window → below events window i ≡ in_time events i window
 is_below events window i low = and_yes (in_time events i window) (nat_lt i (base events window)) (lt-ltb i (base events window) low)
 
+-- and from the base on nothing passes
 not_below : (events : List ℕ) (window i : ℕ) → base events window ≤ i → below events window i ≡ false
 not_below events window i high = second_fails (in_time events i window) (nat_lt i (base events window)) (lt-leb (suc i) (base events window) (omega arith))
 
@@ -83,6 +88,7 @@ as_many_in s codestream a =
     let c = s.parts in
     precincts-length c.head s.stamp c.places c.content (as_said c.head c.places c.content c.packets a.are_packets) ∙ as_many c.head c.places c.content c.packets a.are_packets
 
+-- so with each codestream
 all_many : (sent : List Sent) → AllByRecursion IsWhole sent → AllByRecursion (λ s. length (precincts_in s) ≡ length s.parts.packets) sent
 all_many [] w = tt
 all_many (s ∷ sent) w = (as_many_in s w.0.codestream w.0.parts, all_many sent w.1)
@@ -121,11 +127,13 @@ gives_what_is_due sent codestreams datagrams frames events pick c bytes some a =
 abbrev IsSaid : List Sent → StreamPrecinct → Type 0
 IsSaid all x = (p : Precinct) × (said_by all x ≡ p ∷ []) × (p.stamp ≡ x.stamp)
 
+-- the precincts of a codestream have its stamp
 stamps_are : (h : Head) (stamp : ℕ) (ps : List Place) (xs : List Content) → AllByRecursion (λ z. z.stamp ≡ stamp) (precincts_of h stamp ps xs)
 stamps_are h stamp [] xs = tt
 stamps_are h stamp (p ∷ ps) [] = tt
 stamps_are h stamp (p ∷ ps) (x ∷ xs) = (refl, stamps_are h stamp ps xs)
 
+-- each precinct of a codestream says one thing
 said_each : (all : List Sent) (stamp : ℕ) (f : ℕ → CarriedPacket) (ys front zs : List Precinct) (k : ℕ) → ((j : ℕ) → said_by all (record { stamp = stamp; precinct = j }) ≡ passing (λ i. i == j) 0 ys) → ys ≡ front ++ zs → length front ≡ k → AllByRecursion (λ z. z.stamp ≡ stamp) zs
     → AllByRecursion (IsSaid all) (map (named stamp) (filter (λ p. true) (enumerate_from k (map f (range_with_len k (length zs))))))
 said_each all stamp f ys front [] k says e n h = tt
@@ -134,6 +142,7 @@ said_each all stamp f ys front (z ∷ zs) k says e n h = (
   said_each all stamp f ys (front ++ z ∷ []) zs (k + 1) says (e ∙ sym (append_assoc front (z ∷ []) zs)) (omega (arith, n, length-append front (z ∷ []))) h.1,
 )
 
+-- and each of many
 said_all : (all : List Sent) (i at : ℕ) (sent : List Sent) (codestreams : List (List ℕ)) → AllZip (λ s codestream. ArePartsOf s.parts codestream) sent codestreams → AllByRecursion (Says all) sent
     → AllByRecursion (IsSaid all) (flat_map (λ c. precincts_by (λ k p. true) c) (placed (λ s. length (datagrams_of s)) (λ i at s. carried_at at s) i at sent))
 said_all all i at [] codestreams a h = tt
@@ -145,6 +154,7 @@ said_all all i at (s ∷ sent) (b ∷ codestreams) a h =
     all-append (IsSaid all) (precincts_by (λ k p. true) c) (flat_map (λ c. precincts_by (λ k p. true) c) (placed (λ s. length (datagrams_of s)) (λ i at s. carried_at at s) (i + 1) (at + length (datagrams_of s)) sent)) one
     (said_all all (i + 1) (at + length (datagrams_of s)) sent codestreams a.1 h.1)
 
+-- so with a stream
 pub each_precinct_is_said : EachPrecinctIsSaid
 each_precinct_is_said sent codestreams datagrams c =
     let P : List Carried → Type 0 = λ l. AllByRecursion (IsSaid sent) (flat_map (λ c. precincts_by (λ k p. true) c) l) in

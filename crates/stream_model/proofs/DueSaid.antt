@@ -39,10 +39,12 @@ one_passes front back z k e =
 abbrev pub named : ℕ → ℕ × CarriedPacket → StreamPrecinct
 named stamp p = record { stamp = stamp; precinct = p.0 }
 
+-- one of them is chosen or not
 chosen : {A B : Type 0} (g : B → List Precinct) (nm : A → B) (x : A) (z : Precinct) (xs : List A) (rest : List Precinct) (b : Bool) → g (nm x) ≡ z ∷ [] → flat_map g (map nm xs) ≡ rest → flat_map g (map nm (cond b (x ∷ xs) xs)) ≡ (if b then z ∷ rest else rest)
 chosen g nm x z xs rest true e f = ap (λ l. l ++ flat_map g (map nm xs)) e ∙ ap (λ l. z ∷ l) f
 chosen g nm x z xs rest false e f = f
 
+-- one after another, from a number on
 said_from : (g : StreamPrecinct → List Precinct) (stamp : ℕ) (test : ℕ → CarriedPacket → Bool) (f : ℕ → CarriedPacket) (ys front zs : List Precinct) (k : ℕ) → ((j : ℕ) → g (record { stamp = stamp; precinct = j }) ≡ passing (λ i. i == j) 0 ys) → ys ≡ front ++ zs → length front ≡ k
     → flat_map g (map (named stamp) (filter (λ p. test p.0 p.1) (enumerate_from k (map f (range_with_len k (length zs)))))) ≡ passing (λ j. test j (f j)) k zs
 said_from g stamp test f ys front [] k says e n = refl
@@ -55,17 +57,21 @@ said_from g stamp test f ys front (z ∷ zs) k says e n =
 abbrev pub Says : List Sent → Sent → Type 0
 Says all s = (k : ℕ) → said_by all (record { stamp = s.stamp; precinct = k }) ≡ passing (λ j. j == k) 0 (precincts_in s)
 
+-- two numbers differ both ways
 not_other : (a b : ℕ) → (a == b) ≡ false → (b == a) ≡ false
 not_other a b e = elim (eqb_tells b a) [ inr t ↦ t.0 | inl t ↦ let s : (a == b) ≡ true = ap (λ c. a == c) t.1 ∙ same_number a in absurd (cc) ]
 
+-- a stamp that no codestream has says nothing
 none_said : (sent : List Sent) (stamp k : ℕ) → AllByRecursion (λ t. (stamp == t) ≡ false) (map (λ s. s.stamp) sent) → said_by sent (record { stamp = stamp; precinct = k }) ≡ []
 none_said [] stamp k h = refl
 none_said (s ∷ sent) stamp k h = let e = not_other stamp s.stamp h.0 in rw e (none_said sent stamp k h.1)
 
+-- a codestream before others changes nothing of what they say
 says_behind : (s : Sent) (sent rest : List Sent) → AllByRecursion (λ t. (s.stamp == t) ≡ false) (map (λ t. t.stamp) rest) → AllByRecursion (Says sent) rest → AllByRecursion (Says (s ∷ sent)) rest
 says_behind s sent [] h a = tt
 says_behind s sent (t ∷ rest) h a = (λ k. let e = h.0 in rw e (a.0 k), says_behind s sent rest h.1 a.1)
 
+-- so each codestream of a stream says its own
 pub all_say : (sent : List Sent) → IsDistinct (λ a b. a == b) (map (λ s. s.stamp) sent) → AllByRecursion (Says sent) sent
 unfolding IsDistinct
 all_say [] d = tt
@@ -92,6 +98,7 @@ said_placed all test i at (s ∷ sent) a b =
 abbrev pub StandsIn : List Datagram → Mark → Type 0
 StandsIn bodies m = (payload_start bodies m.body ≤ m.place) × (m.place < payload_start bodies (m.body + 1))
 
+-- where a Body starts and ends
 starts_here : (bodies front : List Datagram) (x : Datagram) (rest : List Datagram) (i at : ℕ) → bodies ≡ front ++ x ∷ rest → length front ≡ i → at ≡ sum_by (λ y. length y.codestream) front → (payload_start bodies i ≡ at) × (payload_start bodies (i + 1) ≡ at + length x.codestream)
 starts_here bodies front x rest i at e n start =
     let f : Datagram → ℕ = λ y. length y.codestream in
@@ -102,6 +109,7 @@ starts_here bodies front x rest i at e n start =
     let h = ap (λ k. payload_start bodies (k + 1)) (sym n) in
     (omega (arith, one, g, start), omega (arith, two, h, last, start))
 
+-- each mark of Bodies stands in its own
 pub marks_stand : (s : Sent) (bodies front rest : List Datagram) (i at : ℕ) → bodies ≡ front ++ rest → length front ≡ i → at ≡ sum_by (λ y. length y.codestream) front → AllByRecursion (IsBodyOf s) rest → AllByRecursion (StandsIn bodies) (marks_from i at rest)
 marks_stand s bodies front [] i at e n start each = tt
 marks_stand s bodies front (x ∷ rest) i at e n start each =

@@ -35,10 +35,12 @@ hands n x =
     let left : filter (λ (y : Held). not (y.number == n)) (h ∷ []) ≡ [] = rw e refl in
     ap (next_at n (record { base = Some n; due = 0; held = h ∷ [] })) found ∙ ap (λ l. Hand x (record { base = Some ((n + 1) % 2 ^ 24); due = 0; held = l })) left
 
+-- one that is handed on is decoded
 drained_hand : (m : ℕ) (r : Receiver) (x : Datagram) (w : Window) → next r.window r.window.base ≡ Hand x w → drained (suc m) r ≡ drained m (followed (record r { window = w }) (decoded r.decoder x x.payload))
 unfolding drained
 drained_hand m r x w e = rw (e, drained) refl
 
+-- and where nothing is handed on nothing changes
 drained_none : (m : ℕ) (r : Receiver) → next r.window r.window.base ≡ Nothing → drained (suc m) r ≡ r
 unfolding drained
 drained_none m r e = rw (e, drained) refl
@@ -56,9 +58,11 @@ abbrev IsNext : Option ℕ → ℕ → Type 0
 IsNext None n = Unit {0}
 IsNext (Some base) n = base ≡ n
 
+-- a number is not ahead of itself
 ahead_none : (n : ℕ) → ahead n n ≡ 0
 ahead_none n = omega arith
 
+-- so the window keeps it
 next_kept : (window : ℕ) (base : Option ℕ) (n : ℕ) → 1 ≤ window → IsNext base n → offer window n (record { base = base; due = 0; held = [] }) base ≡ Kept
 next_kept window None n some is = refl
 next_kept window (Some base) n some is =

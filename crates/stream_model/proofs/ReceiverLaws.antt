@@ -45,6 +45,7 @@ handed_items there dg k (x ∷ xs) h =
 abbrev AddsNothing : Decoder → Settled → Type 0
 AddsNothing d s = (s.precincts ≡ []) × (s.decoder.unsupported ≡ d.unsupported) × (s.decoder.disagreed ≡ d.disagreed) × (s.decoder.broken ≡ d.broken)
 
+-- however many they are
 trailing : (d : Decoder) (there : ℕ → Bool) (dg : ℕ → Datagram) (p n : ℕ) → ((i : ℕ) → p ≤ i → there i ≡ false) → AddsNothing d (fed d (items there dg p n))
 trailing d there dg p zero none = (refl, refl, refl, refl)
 trailing d there dg p (suc n) none =
@@ -79,6 +80,7 @@ are_at (x ∷ xs) [] i a low = absurd a
 are_at (x ∷ xs) (b ∷ datagrams) zero a low = a.0
 are_at (x ∷ xs) (b ∷ datagrams) (suc i) a low = are_at xs datagrams i a.1 (omega arith)
 
+-- each has the number of its position
 numbers_at : (number k : ℕ) (xs : List Datagram) (i : ℕ) → map extended_number xs ≡ map (λ j. (number + j) % 2 ^ 24) (range_with_len k (length xs)) → i < length xs → extended_number (at xs i) ≡ num number (k + i)
 numbers_at number k [] i e low = absurd (omega arith)
 numbers_at number k (x ∷ xs) zero e low = let first : extended_number x ≡ (number + k) % 2 ^ 24 = cc in first ∙ ap (num number) (let z : k ≡ k + 0 = omega arith in z)
@@ -86,6 +88,7 @@ numbers_at number k (x ∷ xs) (suc i) e low =
     let behind : map extended_number xs ≡ map (λ j. (number + j) % 2 ^ 24) (range_with_len (k + 1) (length xs)) = cc in
     numbers_at number (k + 1) xs i behind (omega arith) ∙ ap (num number) (let z : k + 1 + i ≡ k + suc i = omega arith in z)
 
+-- so they are those of the stream
 stream_at : (sent : List Sent) (codestreams datagrams : List (List ℕ)) (c : Carry sent codestreams datagrams) → IsStreamAt c.number (at (flat_map datagrams_of sent)) datagrams
 stream_at sent codestreams datagrams c =
     let xs = flat_map datagrams_of sent in
@@ -118,6 +121,7 @@ and_true : (b : Bool) → b ≡ (b && true)
 and_true true = refl
 and_true false = refl
 
+-- and one that fails
 and_not : (b : Bool) → (b && false) ≡ false
 and_not true = refl
 and_not false = refl
@@ -187,6 +191,7 @@ window_by : (number : ℕ) (dg : ℕ → Datagram) (end window : ℕ) (events : 
 window_by number dg end window [] r some k = absurd (omega arith)
 window_by number dg end window (x ∷ xs) r some (h, k) = (ap (λ (w : Window). w.base) h.window, ap (λ (w : Window). w.due) h.window)
 
+-- so with a stream
 pub window_is_at_base : WindowIsAtBase
 window_is_at_base sent codestreams datagrams frames events pick c some a any =
     window_by c.number (at (flat_map datagrams_of sent)) (length datagrams) pick.window events (received pick frames) any (all_known sent codestreams datagrams frames events pick c some a).0

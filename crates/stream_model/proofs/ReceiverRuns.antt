@@ -63,6 +63,7 @@ abbrev pub Known : ℕ → (ℕ → Datagram) → ℕ → ℕ → List ℕ → R
 Known number dg end window [] r = (r.window ≡ empty) × (r.decoder ≡ at_start) × (r.precincts ≡ []) × (r.kept ≡ 0)
 Known number dg end window (x ∷ xs) r = Holding number dg end (base (x ∷ xs) window) (λ i. in_time (x ∷ xs) i window) r × (r.kept ≡ length (positions_in_time (x ∷ xs) window))
 
+-- what is known goes by the window, the decoder, the precincts and the count
 known_as : (number : ℕ) (dg : ℕ → Datagram) (end window : ℕ) (events : List ℕ) (r s : Receiver) → s.window ≡ r.window → s.decoder ≡ r.decoder → s.precincts ≡ r.precincts → s.kept ≡ r.kept → Known number dg end window events r → Known number dg end window events s
 known_as number dg end window [] r s w d p k t = (w ∙ t.0, d ∙ t.1, p ∙ t.2, k ∙ t.3)
 known_as number dg end window (x ∷ xs) r s w d p k t =
@@ -133,6 +134,7 @@ first_event datagrams f more (a ∷ rest) e = (a, rest, refl, cc, cc)
 picked_no : (pick : Pick) (src : ℕ) (f : List ℕ) (frames others : List (List ℕ)) → is_picked pick src f ≡ false → filter (is_picked pick src) (f ∷ frames) ≡ others → filter (is_picked pick src) frames ≡ others
 picked_no pick src f frames others isnt e = sym (ap (λ b. cond b (f ∷ filter (is_picked pick src) frames) (filter (is_picked pick src) frames)) isnt) ∙ e
 
+-- a picked one is the first of them
 picked_yes : (pick : Pick) (src : ℕ) (f : List ℕ) (frames others : List (List ℕ)) → is_picked pick src f ≡ true → filter (is_picked pick src) (f ∷ frames) ≡ others → f ∷ filter (is_picked pick src) frames ≡ others
 picked_yes pick src f frames others is e = sym (ap (λ b. cond b (f ∷ filter (is_picked pick src) frames) (filter (is_picked pick src) frames)) is) ∙ e
 
@@ -214,6 +216,7 @@ frames_known number dg datagrams s pick src (f ∷ frames) before events r some 
 abbrev due_at : ℕ → List ℕ → ℕ
 due_at b hs = fold max 0 (map (λ i. i - b + 1) hs)
 
+-- is reckoned from the numbers
 dues_are : (number : ℕ) (dg : ℕ → Datagram) (b m end : ℕ) (hs : List ℕ) → AllByRecursion (λ i. (b ≤ i) × (i < end)) hs → end < 8388608
     → fold max m (map (λ h. ahead (num number b) h.number + 1) (map (held_at number dg) hs)) ≡ fold max m (map (λ i. i - b + 1) hs)
 dues_are number dg b m end [] all few = refl
@@ -221,14 +224,17 @@ dues_are number dg b m end (i ∷ hs) all few =
     ap (λ a. fold max (max m (a + 1)) (map (λ h. ahead (num number b) h.number + 1) (map (held_at number dg) hs))) (ahead_is number b i all.0.0 (omega (arith, all.0.1, few)))
     ∙ dues_are number dg b (max m (i - b + 1)) end hs all.1 few
 
+-- it stays below the end
 due_most : (b m end : ℕ) (hs : List ℕ) → AllByRecursion (λ i. (b ≤ i) × (i < end)) hs → b + m ≤ end → b + fold max m (map (λ i. i - b + 1) hs) ≤ end
 due_most b m end [] all within = within
 due_most b m end (i ∷ hs) all within = due_most b (max m (i - b + 1)) end hs all.1 (omega (arith, all.0.0, all.0.1, within))
 
+-- a maximum is no less than where it began
 max_least : (b m : ℕ) (hs : List ℕ) → m ≤ fold max m (map (λ i. i - b + 1) hs)
 max_least b m [] = omega arith
 max_least b m (i ∷ hs) = let h = max_least b (max m (i - b + 1)) hs in omega (arith, h)
 
+-- all that is held is due
 due_reaches : (b m i : ℕ) (hs : List ℕ) → mem hs i ≡ true → i - b + 1 ≤ fold max m (map (λ j. j - b + 1) hs)
 due_reaches b m i [] t = absurd (cc)
 due_reaches b m i (j ∷ hs) t = elim (eqb_tells j i) [
@@ -301,6 +307,7 @@ unfolding drained
 drained_nothing zero r e = refl
 drained_nothing (suc m) r e = rw (e, drained) refl
 
+-- so the receiver stays as it is
 pub drained_empty : (r : Receiver) → r.window ≡ empty → flushed r ≡ r
 drained_empty r w =
     let due : make_all_due r.window r.window.base ≡ empty = ap (λ v. make_all_due v v.base) w in

@@ -101,6 +101,7 @@ all_front : {A : Type 0} (P : A → Type 0) (xs ys : List A) → AllByRecursion 
 all_front P [] ys h = tt
 all_front P (x ∷ xs) ys h = (h.0, all_front P xs ys h.1)
 
+-- and of those behind them
 all_back : {A : Type 0} (P : A → Type 0) (xs ys : List A) → AllByRecursion P (xs ++ ys) → AllByRecursion P ys
 all_back P [] ys h = h
 all_back P (x ∷ xs) ys h = all_back P xs ys h.1
@@ -110,6 +111,7 @@ body_by : (s : Sent) (x : Datagram) (h : PayloadFields) (bytes : List ℕ) → x
 body_by s x (Main h) bytes e is p t = absurd is
 body_by s x (Body h) bytes e is p t = record { fields = h; payload = e; stamp = t; marked = p.marked }
 
+-- so with many
 bodies_of : (s : Sent) (rest : List Datagram) → AllByRecursion (λ x. IsBodyPayload x.payload) rest → AllByRecursion (λ x. x.rtp.stamp ≡ s.stamp) rest → AllByRecursion (λ x. (b : List ℕ) × IsDatagram x b) rest → AllByRecursion (IsBodyOf s) rest
 bodies_of s [] a b c = tt
 bodies_of s (x ∷ rest) a b c = (body_by s x x.payload c.0.1.body refl a.0 c.0.1.is_payload (sym b.0), bodies_of s rest a.1 b.1 c.1)
