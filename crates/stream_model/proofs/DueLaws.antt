@@ -110,9 +110,9 @@ carried_placed sent = are_placed (λ s. length (datagrams_of s)) (λ i at s. car
 
 -- the rules give what is due
 pub gives_what_is_due : GivesWhatIsDue
-gives_what_is_due sent codestreams datagrams frames events pick c bytes some a =
-    let r = gives_what_is_reached sent codestreams datagrams frames events pick c bytes some a in
-    let whole = are_whole sent codestreams c.are_parts c.each bytes (have_bytes (flat_map datagrams_of sent) datagrams c.are_datagrams) in
+gives_what_is_due sent codestreams datagrams frames events pick c some a =
+    let r = gives_what_is_reached sent codestreams datagrams frames events pick c some a in
+    let whole = are_whole sent codestreams c.are_parts c.each (have_bytes (flat_map datagrams_of sent) datagrams c.are_datagrams) in
     let says = all_say sent c.apart in
     let many = all_many sent whole in
     let now : flat_map (said_by sent) (due events pick.window (carried sent)) ≡ reached_in (below events pick.window) sent =

@@ -155,13 +155,13 @@ zip_length (x ∷ xs) (f ∷ frames) a = ap suc (zip_length xs frames a.1)
 
 -- so everything is given
 pub in_order_gives_all : InOrderGivesAll
-in_order_gives_all sent codestreams datagrams pick c bytes some kind source =
+in_order_gives_all sent codestreams datagrams pick c some kind source =
     let all = flat_map datagrams_of sent in
     let same : length all ≡ length datagrams = zip_length all datagrams c.are_datagrams in
     let numbers : map extended_number all ≡ map (λ j. (c.number + j) % 2 ^ 24) (range_with_len 0 (length all)) = c.numbers ∙ ap (λ n. map (λ j. (c.number + j) % 2 ^ 24) (range_with_len 0 n)) (sym same) in
     let one = all_imply (λ (x : Datagram). (x.rtp.source ≡ c.source) × (x.rtp.kind ≡ c.kind)) (λ x. (x.rtp.source ≡ c.source) × (x.rtp.kind ≡ pick.kind)) all (λ x h. (h.0, h.1 ∙ sym kind)) c.one_source in
     let f = frames_taken pick pick.source None at_start [] 0 c.source all datagrams c.are_datagrams some one source (counted_up c.number 0 all None numbers tt) 0 in
-    let rules = runs_give sent codestreams datagrams (λ i. true) c bytes in
+    let rules = runs_give sent codestreams datagrams (λ i. true) c in
     let fed_all = fed at_start (handed (λ i. true) 0 all) in
     let every : fed_all.precincts ≡ flat_map precincts_in sent = rules.0 ∙ (reached_placed (λ i. true) sent ∙ all_reached 0 0 sent) in
     let got = received pick datagrams in

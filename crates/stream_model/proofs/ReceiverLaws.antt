@@ -1,12 +1,11 @@
 -- Whatever arrives of a stream, the rules of a receiver give what is reached.
 use Rattle.std.proofs.Common.{◌≡◌, ◌⊎◌, ◌<◌, ◌≤◌, ◌+◌, ◌-◌, ◌%◌, ◌^◌, ◌&&◌, ℕ, zero, suc, Bool, true, false, List, [], ◌∷◌, ◌++◌, map, length, take, get_or, Option, Some, None, subst, refl, sym, ◌∙◌, ap, inl, inr, arith, if◌then◌else◌}
 use Rattle.std.specs.Prelude.{nat_lt, slice_index}
-use Rattle.std.specs.List.{AllByRecursion, AllZip, filter, flat_map, range_with_len}
+use Rattle.std.specs.List.{AllZip, filter, flat_map, range_with_len}
 use Rattle.std.proofs.lemmas.Bool.{cases_lt, lt-ltb, lt-leb}
 use Rattle.std.proofs.lemmas.List.{append-nil, length-take, get_or-take}
 use Rattle.wire_model.specs.Payload.{Main}
 use Rattle.wire_model.specs.Datagram.{Datagram, IsDatagram}
-use Rattle.codestream_model.specs.Bytes.{IsBytes}
 use Rattle.stream_model.specs.Report.{Counts}
 use Rattle.stream_model.specs.Arrivals.{is_of_kind, source_of, picked_source, picked, Arrive, datagram_at, in_time, base, highest_arrival, positions_in_time}
 use Rattle.stream_model.specs.Stream.{Sent, datagrams_of, Carry, extended_number}
@@ -53,15 +52,15 @@ trailing d there dg p (suc n) none =
     subst P (sym (none p (omega arith))) (trailing (take_gap d) there dg (p + 1) n (λ i low. none i (omega arith)))
 
 -- what was fed up to a position behind which nothing is there is what is reached
-reached_by : (sent : List Sent) (codestreams datagrams : List (List ℕ)) (there : ℕ → Bool) (q : ℕ) → Carry sent codestreams datagrams → AllByRecursion IsBytes codestreams → q ≤ length datagrams → ((i : ℕ) → q ≤ i → there i ≡ false)
+reached_by : (sent : List Sent) (codestreams datagrams : List (List ℕ)) (there : ℕ → Bool) (q : ℕ) → Carry sent codestreams datagrams → q ≤ length datagrams → ((i : ℕ) → q ≤ i → there i ≡ false)
     → ((fed at_start (items there (at (flat_map datagrams_of sent)) 0 q)).precincts ≡ reached_in there sent)
     × ((fed at_start (items there (at (flat_map datagrams_of sent)) 0 q)).decoder.unsupported ≡ 0) × ((fed at_start (items there (at (flat_map datagrams_of sent)) 0 q)).decoder.disagreed ≡ 0) × ((fed at_start (items there (at (flat_map datagrams_of sent)) 0 q)).decoder.broken ≡ 0)
-reached_by sent codestreams datagrams there q c bytes within none =
+reached_by sent codestreams datagrams there q c within none =
     let xs = flat_map datagrams_of sent in
     let dg = at xs in
     let n = length xs in
     let size : n ≡ length datagrams = zip_length xs datagrams c.are_datagrams in
-    let rules = runs_give sent codestreams datagrams there c bytes in
+    let rules = runs_give sent codestreams datagrams there c in
     let list : handed there 0 xs ≡ items there dg 0 n = handed_items there dg 0 xs (λ j. ap dg (let e : 0 + j ≡ j = omega arith in e)) in
     let split = fed_further there dg q n (omega (arith, within, size)) in
     let all : fed at_start (handed there 0 xs) ≡ given_before (fed at_start (items there dg 0 q)).precincts (fed (fed at_start (items there dg 0 q)).decoder (items there dg q (n - q))) = ap (fed at_start) list ∙ split in
@@ -165,16 +164,16 @@ counts_by k o f u d b k' o' f' u' d' b' e1 e2 e3 e4 e5 e6 = rw (e1, e2, e3, e4, 
 
 -- the rules give what is reached
 pub gives_what_is_reached : GivesWhatIsReached
-gives_what_is_reached sent codestreams datagrams frames events pick c bytes some a =
+gives_what_is_reached sent codestreams datagrams frames events pick c some a =
     let dg = at (flat_map datagrams_of sent) in
     let end = length datagrams in
     let r = received pick frames in
     let k = all_known sent codestreams datagrams frames events pick c some a in
     let early = before_end c.number dg end pick.window events r some k.0 in
-    let now = reached_by sent codestreams datagrams (λ i. in_time events i pick.window && nat_lt i (base events pick.window)) early.0 c bytes early.1 early.3 in
+    let now = reached_by sent codestreams datagrams (λ i. in_time events i pick.window && nat_lt i (base events pick.window)) early.0 c early.1 early.3 in
     let late = at_end c.number dg end pick.window events r c.few k.0 in
     let e = late.0 in
-    let last = reached_by sent codestreams datagrams (λ i. in_time events i pick.window) e.q c bytes e.within e.none in
+    let last = reached_by sent codestreams datagrams (λ i. in_time events i pick.window) e.q c e.within e.none in
     let s = flushed r in
     let sum : s.kept + s.old + s.refused ≡ length frames = each_frame_is_counted_once pick frames in
     let kept : s.kept ≡ length (positions_in_time events pick.window) = e.counts.0 ∙ late.1 in

@@ -5,7 +5,6 @@ use Rattle.std.proofs.lemmas.Bool.{eq-eqb}
 use Rattle.std.proofs.lemmas.List.Folds.{flat_map-map}
 use Rattle.wire_model.specs.Payload.{PayloadFields, Main, Body, IsPayload}
 use Rattle.wire_model.specs.Datagram.{Datagram, IsDatagram}
-use Rattle.codestream_model.specs.Bytes.{IsBytes}
 use Rattle.codestream_model.proofs.TreeLemmas.{either}
 use Rattle.stream_model.specs.Report.{Precinct}
 use Rattle.stream_model.specs.Stream.{ArePartsOf, Sent, datagrams_of, IsBodyPayload, Carries, packet_span, carried_at, main_position}
@@ -117,14 +116,14 @@ bodies_of s [] a b c = tt
 bodies_of s (x ∷ rest) a b c = (body_by s x x.payload c.0.1.body refl a.0 c.0.1.is_payload (sym b.0), bodies_of s rest a.1 b.1 c.1)
 
 -- the codestreams of a stream
-pub are_whole : (sent : List Sent) (codestreams : List (List ℕ)) → AllZip (λ s codestream. ArePartsOf s.parts codestream) sent codestreams → AllByRecursion Carries sent → AllByRecursion IsBytes codestreams
+pub are_whole : (sent : List Sent) (codestreams : List (List ℕ)) → AllZip (λ s codestream. ArePartsOf s.parts codestream) sent codestreams → AllByRecursion Carries sent
     → AllByRecursion (λ x. (b : List ℕ) × IsDatagram x b) (flat_map datagrams_of sent) → AllByRecursion IsWhole sent
-are_whole [] codestreams a b c d = tt
-are_whole (s ∷ sent) [] a b c d = absurd a
-are_whole (s ∷ sent) (codestream ∷ codestreams) a b c d =
+are_whole [] codestreams a b d = tt
+are_whole (s ∷ sent) [] a b d = absurd a
+are_whole (s ∷ sent) (codestream ∷ codestreams) a b d =
     let mine = all_front (λ (x : Datagram). (b : List ℕ) × IsDatagram x b) (datagrams_of s) (flat_map datagrams_of sent) d in (
-      record { codestream = codestream; parts = a.0; carries = b.0; bytes = c.0; bodies = bodies_of s s.bodies b.0.bodies b.0.stamps.1 mine.1 },
-      are_whole sent codestreams a.1 b.1 c.1 (all_back (λ (x : Datagram). (b : List ℕ) × IsDatagram x b) (datagrams_of s) (flat_map datagrams_of sent) d),
+      record { codestream = codestream; parts = a.0; carries = b.0; bodies = bodies_of s s.bodies b.0.bodies b.0.stamps.1 mine.1 },
+      are_whole sent codestreams a.1 b.1 (all_back (λ (x : Datagram). (b : List ℕ) × IsDatagram x b) (datagrams_of s) (flat_map datagrams_of sent) d),
     )
 
 -- at the start no main header is in force
@@ -140,7 +139,7 @@ reached_placed there sent =
 
 -- the rules give exactly what is reached
 pub runs_give : RunsGiveWhatIsReached
-runs_give sent codestreams datagrams there r bytes =
-    let whole = are_whole sent codestreams r.are_parts r.each bytes (have_bytes (flat_map datagrams_of sent) datagrams r.are_datagrams) in
+runs_give sent codestreams datagrams there r =
+    let whole = are_whole sent codestreams r.are_parts r.each (have_bytes (flat_map datagrams_of sent) datagrams r.are_datagrams) in
     let f = all_fed at_start 0 there sent whole r.apart (none_yet sent) in
     (f.0 ∙ sym (reached_placed there sent), record { unsupported = f.1.0; disagreed = f.1.1; broken = f.1.2 })

@@ -1,7 +1,6 @@
 -- What is promised of a receiver's rules where the frames are datagrams of a stream.
 use Rattle.std.specs.Prelude.{◌≡◌, ◌≤◌, ◌⊎◌, ◌+◌, ◌%◌, ◌^◌, ◌==◌, ◌&&◌, List, [], ◌∷◌, ℕ, length, take, nat_lt, Option, Some, None, if◌then◌else◌}
 use Rattle.std.specs.List.{AllByRecursion, flat_map}
-use Rattle.codestream_model.specs.Bytes.{IsBytes}
 use Rattle.stream_model.specs.Stream.{Sent, Carry, carried, datagrams_of}
 use Rattle.stream_model.specs.Reached.{StreamPrecinct, due, due_at_end}
 use Rattle.wire_model.specs.Datagram.{Datagram}
@@ -18,7 +17,7 @@ use Rattle.stream_model.specs.RunLaws.{fed, handed, passing, precincts_in, reach
 -- kept, and nothing else is counted.
 abbrev pub InOrderGivesAll : Type 0
 InOrderGivesAll =
-    (sent : List Sent) (codestreams datagrams : List (List ℕ)) (pick : Pick) → (c : Carry sent codestreams datagrams) → AllByRecursion IsBytes codestreams
+    (sent : List Sent) (codestreams datagrams : List (List ℕ)) (pick : Pick) → (c : Carry sent codestreams datagrams)
     → 1 ≤ pick.window → pick.kind ≡ c.kind → (pick.source ≡ None) ⊎ (pick.source ≡ Some c.source)
     → ((received pick datagrams).precincts ≡ flat_map precincts_in sent)
     × ((flushed (received pick datagrams)).precincts ≡ flat_map precincts_in sent)
@@ -54,7 +53,7 @@ HandsOnInOrder =
 -- the arrivals.
 abbrev pub GivesWhatIsReached : Type 0
 GivesWhatIsReached =
-    (sent : List Sent) (codestreams datagrams frames : List (List ℕ)) (events : List ℕ) (pick : Pick) → Carry sent codestreams datagrams → AllByRecursion IsBytes codestreams
+    (sent : List Sent) (codestreams datagrams frames : List (List ℕ)) (events : List ℕ) (pick : Pick) → Carry sent codestreams datagrams
     → 1 ≤ pick.window → Arrive datagrams (picked pick.kind pick.source frames) events
     → ((received pick frames).precincts ≡ reached_in (λ i. in_time events i pick.window && nat_lt i (base events pick.window)) sent)
     × ((flushed (received pick frames)).precincts ≡ reached_in (λ i. in_time events i pick.window) sent)
@@ -71,7 +70,7 @@ WindowIsAtBase =
 -- precinct with its content.
 abbrev pub GivesWhatIsDue : Type 0
 GivesWhatIsDue =
-    (sent : List Sent) (codestreams datagrams frames : List (List ℕ)) (events : List ℕ) (pick : Pick) → Carry sent codestreams datagrams → AllByRecursion IsBytes codestreams
+    (sent : List Sent) (codestreams datagrams frames : List (List ℕ)) (events : List ℕ) (pick : Pick) → Carry sent codestreams datagrams
     → 1 ≤ pick.window → Arrive datagrams (picked pick.kind pick.source frames) events
     → ((received pick frames).precincts ≡ flat_map (said_by sent) (due events pick.window (carried sent)))
     × ((flushed (received pick frames)).precincts ≡ flat_map (said_by sent) (due_at_end events pick.window (carried sent)))
