@@ -57,3 +57,4 @@ pub mod ReceiverRuns
 pub mod ReceiverLaws
 pub mod DueSaid
 pub mod DueLaws
+pub mod ClosedFound
