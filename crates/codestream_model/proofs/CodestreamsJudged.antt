@@ -155,12 +155,15 @@ codestreams_judged bytes fits = head_judged bytes (head_of bytes) fits (headers_
 refuses_parts : (at place : ℕ) (why reason : WalkRefusal) → Refuses at why ≡ Refuses place reason → (at ≡ place) × (why ≡ reason)
 refuses_parts at place why reason e = (cc, cc)
 
+-- a codestream is no refusal
 whole_refuses : (n at : ℕ) (why : WalkRefusal) → Whole n ≡ Refuses at why → ⊥
 whole_refuses n at why e = cc
 
+-- nor want of bytes
 whole_wants : (n : ℕ) → Whole n ≡ Wants → ⊥
 whole_wants n e = cc
 
+-- and a refusal is no want of bytes
 refuses_wants : (at : ℕ) (why : WalkRefusal) → Refuses at why ≡ Wants → ⊥
 refuses_wants at why e = cc
 

@@ -13,8 +13,8 @@ use Rattle.codestream_model.specs.SegmentTests.{siz_tests, cod_tests, tile_tests
 use Rattle.codestream_model.specs.Areas.{ceil_div}
 use Rattle.codestream_model.specs.Precincts.{IsPrecinct}
 use Rattle.codestream_model.specs.PacketOrder.{pid}
-use Rattle.codestream_model.specs.HeadLimits.{IsStep, IsWithinLimits}
-use Rattle.codestream_model.specs.MainHeader.{content_tests, Passes, IsMainSegment, StartsWithSiz}
+use Rattle.codestream_model.specs.HeadLimits.{IsStep, HasSamples, IsWithinLimits}
+use Rattle.codestream_model.specs.MainHeader.{content_tests, Passes, IsMainSegment, StartsWithSiz, SpellsHead}
 use Rattle.codestream_model.specs.MainHeaderLaws.{HeaderIsWithinLimits}
 use Rattle.codestream_model.proofs.TestLists.{checks}
 use Rattle.codestream_model.proofs.SegmentBytes.{segments-append, length-segment}
@@ -227,3 +227,28 @@ header_is_within_limits h b fits s =
     let long : 2 + length (segments_bytes s.main) + 14 ≤ length b = rw s.whole (length-header s.main s.tile s.skipped s.is_tile.ten) in
     let P : Head → Type 0 = λ x. IsWithinLimits x in
     subst P (sym s.values) (values_within s.main s.tile.content (length b) (content_bytes SIZ s.main main_fits) (content_bytes COD s.main main_fits) tile_fits (siz_facts (content_of SIZ s.main) siz) (cod_facts (content_of COD s.main) cod) s.is_tile.content long s.short)
+
+-- a main header has components, all of them sampled somewhere
+pub record HasComponents (h : Head) : Type 0 where
+  pub some : 1 ≤ length h.steps
+  pub steps : All (λ step. (0 < step.x) × (0 < step.y)) h.steps
+  pub samples : All (HasSamples h) h.steps
+
+-- whatever numbers its bytes are
+pub header_has_components : (h : Head) (b : List ℕ) → SpellsHead h b → HasComponents h
+header_has_components h b s =
+    let siz = content_of SIZ s.main in
+    let f = siz_facts siz (content_sound SIZ s.main s.is_main.each (siz_stands s.main s.is_main.starts s.is_tile.has_cap)) in
+    let count : length (siz_steps siz) ≡ csiz siz = length-map (range_with_len 0 (csiz siz)) (λ (i : ℕ). record { x = slice_index siz (37 + 3 * i); y = slice_index siz (38 + 3 * i) }) ∙ length-range_with_len 0 (csiz siz) in
+    let some : 1 ≤ csiz siz = f.some in
+    let samples = components_are siz f in
+    let c : HasComponents (head_values s.main s.tile.content (length b)) = record {
+      some = omega arith;
+      steps = λ k d lt.
+          let step = get_or (siz_steps siz) k d in
+          let parts = or_parts (step.x == 0) (step.y == 0) (none_pass (λ (t : Pair). t.x == 0 || t.y == 0) (siz_steps siz) f.no_zero k d lt) in
+          (positive step.x parts.0, positive step.y parts.1);
+      samples = λ k d lt. let t = samples k d lt in record { wide = t.0; high = t.1 };
+    } in
+    let P : Head → Type 0 = λ x. HasComponents x in
+    subst P (sym s.values) c

@@ -41,10 +41,12 @@ small_head psot = record (plain_head 0 1 1 15 75 89) { psot = psot }
 pub header_14 : List ℕ
 header_14 = slice_set small_header 84 14
 
+-- its values are read
 header_14_is_read : head_of header_14 ≡ Ok (small_head 14)
 unfolding header_14 siz_tests cap_tests cod_tests tile_tests segment_tests skipped_tests sum_below read_tile read_main head_of
 header_14_is_read = refl
 
+-- so it is a main header
 header_14_spells : SpellsHead (small_head 14) header_14
 unfolding header_14
 header_14_spells = spells_if_read header_14 (small_head 14) (bytes_if_tested header_14 refl) header_14_is_read
@@ -54,10 +56,12 @@ one_step : (psot : ℕ) → HasSteps (small_head psot)
 one_step psot zero d lt = (omega arith, omega arith)
 one_step psot (suc k) d lt = absurd (omega arith)
 
+-- is all of the packet order
 order_is : (psot : ℕ) → packet_order (small_head psot) ≡ precinct 0 ∷ []
 unfolding placed sorted
 order_is psot = refl
 
+-- which is the one of the header
 one_order : (psot : ℕ) → IsPacketOrder (small_head psot) (precinct 0 ∷ [])
 one_order psot = let P : List Place → Type 0 = λ places. IsPacketOrder (small_head psot) places in subst P (order_is psot) (packet_order_is_computed (small_head psot) (one_step psot))
 
@@ -69,6 +73,7 @@ begun psot head rest s = record { head = head; before = []; content = []; packet
 abbrev nothing : Content
 nothing = record { blocks = []; bytes = [] }
 
+-- is one of the precinct
 empty : (psot : ℕ) → SpellsPacket (small_head psot) (precinct 0) nothing (0 ∷ [])
 empty psot = record { header = 0 ∷ []; few_blocks = omega arith; is_header = (empty_packet (grids (small_head psot) (precinct 0)) 0 [] (omega arith)).1; segments = refl; whole = refl; short = omega arith }
 
@@ -111,6 +116,7 @@ wrong_psot : IsPsotRight (small_head 14) 90 → ⊥
 wrong_psot (inl e) = omega arith
 wrong_psot (inr e) = omega arith
 
+-- so it is refused there
 pub a_wrong_psot_is_a_fault : Faults (header_14 ++ 0 ∷ []) 90 Psot
 unfolding header_14
 a_wrong_psot_is_a_fault =

@@ -1,8 +1,8 @@
 -- One arrival more: what is in time then, and where the base stands.
-use Rattle.std.proofs.Common.{◌≡◌, ◌⊎◌, ◌<◌, ◌≤◌, ◌+◌, ◌-◌, ◌==◌, ◌&&◌, ℕ, zero, suc, max, Bool, true, false, cond, List, [], ◌∷◌, ◌++◌, length, filter, refl, sym, ◌∙◌, ap, inl, inr, arith}
+use Rattle.std.proofs.Common.{◌≡◌, ◌⊎◌, ◌<◌, ◌≤◌, ◌+◌, ◌-◌, ◌==◌, ◌&&◌, ◌||◌, ℕ, zero, suc, max, Bool, true, false, cond, List, [], ◌∷◌, ◌++◌, length, filter, refl, sym, ◌∙◌, ap, inl, inr, arith}
 use Rattle.std.specs.Prelude.{nat_lt, nat_le}
 use Rattle.std.specs.List.{AllByRecursion, fold, list_all, range_with_len}
-use Rattle.std.proofs.lemmas.Bool.{le-leb, lt-ltb}
+use Rattle.std.proofs.lemmas.Bool.{cases_lt, le-leb, lt-ltb}
 use Rattle.std.proofs.lemmas.Bool.Decides.{eqb_tells}
 use Rattle.std.proofs.lemmas.List.{append-nil, length-append}
 use Rattle.codestream_model.proofs.TreeLemmas.{either, same_number}
@@ -45,6 +45,7 @@ clear_by : (b c d : Bool) → c ≡ true → d ≡ true → cond b true (c && d)
 clear_by true c d e f = refl
 clear_by false c d e f = rw (e, f) refl
 
+-- by the arrivals one after another
 clear_all : (i window : ℕ) (xs : List ℕ) → list_all (λ x. nat_lt x (i + window)) xs ≡ true → clear i window xs ≡ true
 clear_all i window [] h = refl
 clear_all i window (x ∷ xs) h =
@@ -123,6 +124,7 @@ same_filter t u a (suc n) h =
     ap (λ b. cond b (a ∷ filter t (range_with_len (a + 1) n)) (filter t (range_with_len (a + 1) n))) (h a (omega arith) (omega arith))
     ∙ ap (λ l. cond (u a) (a ∷ l) l) (same_filter t u (a + 1) n (λ i low high. h i (omega arith) (omega arith)))
 
+-- none of a range passes
 pub none_of : (t : ℕ → Bool) (a n : ℕ) → ((i : ℕ) → a ≤ i → t i ≡ false) → AllByRecursion (λ i. t i ≡ false) (range_with_len a n)
 none_of t a zero h = tt
 none_of t a (suc n) h = (h a (omega arith), none_of t (a + 1) n (λ i low. h i (omega arith)))
@@ -171,3 +173,37 @@ old_count x xs a window some old =
     let top = highest-append 0 a events in
     ap length (same_filter (λ i. in_time (events ++ a ∷ []) i window) (λ i. in_time events i window) 0 m (λ i l h. old_position x xs a i window some old))
     ∙ count_to events window m (omega (arith, top))
+
+-- one of two holds
+either_of : (b c : Bool) → c ≡ true → (b || c) ≡ true
+either_of true c e = refl
+either_of false c e = e
+
+-- the first of two holds
+either_first : (b c : Bool) → b ≡ true → (b || c) ≡ true
+either_first b c e = rw e refl
+
+-- the greatest of numbers is one of them
+greatest : (b : ℕ) (xs : List ℕ) → (fold max b xs ≡ b) ⊎ (has_arrived xs (fold max b xs) ≡ true)
+greatest b [] = inl refl
+greatest b (x ∷ xs) = elim (greatest (max b x) xs) [
+  | inr t ↦ inr (either_of (x == fold max (max b x) xs) (has_arrived xs (fold max (max b x) xs)) t)
+  | inl e ↦ elim (cases_lt b x) [
+    | inr most ↦ inl (omega (arith, e, most))
+    | inl less ↦ let s : x ≡ fold max (max b x) xs = omega (arith, e, less) in let t : (x == fold max (max b x) xs) ≡ true = ap (λ k. x == k) (sym s) ∙ same_number x in inr (rw t refl)
+  ]
+]
+
+-- the highest arrival is in time
+pub highest_in_time : (x : ℕ) (xs : List ℕ) (window : ℕ) → 1 ≤ window → in_time (x ∷ xs) (highest_arrival (x ∷ xs)) window ≡ true
+highest_in_time x xs window some =
+    let events = x ∷ xs in
+    let h = highest_arrival events in
+    let low = start-le-fold (max 0 x) xs in
+    let first : nat_le x h ≡ true = le-leb x h (omega (arith, low)) in
+    let c : clear h window events ≡ true = clear_all h window events (all_below 0 (h + window) events (omega arith)) in
+    let there : has_arrived events h ≡ true = elim (greatest 0 events) [
+      | inr t ↦ t
+      | inl e ↦ let s : x ≡ h = omega (arith, low, e) in let t : (x == h) ≡ true = ap (λ k. x == k) (sym s) ∙ same_number x in either_first (x == h) (has_arrived xs h) t
+    ] in
+    rw (there, first, c) refl

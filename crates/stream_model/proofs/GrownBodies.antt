@@ -17,6 +17,7 @@ alike x xs ys f g false false e h k = k
 alike x xs ys f g true false e h k = absurd (cc)
 alike x xs ys f g false true e h k = absurd (cc)
 
+-- so with a list of items
 agree : {A B : Type 0} (t u : A → Bool) (f g : A → B) (xs : List A) → AllByRecursion (λ x. (t x ≡ u x) × (f x ≡ g x)) xs → map f (filter t xs) ≡ map g (filter u xs)
 agree t u f g [] h = refl
 agree t u f g (x ∷ xs) h = alike x (filter t xs) (filter u xs) f g (t x) (u x) h.0.0 h.0.1 (agree t u f g xs h.1)
@@ -27,10 +28,12 @@ enumerate-append k [] ys = ap (λ n. enumerate_from n ys) (let e : k ≡ k + 0 =
 enumerate-append k (x ∷ xs) ys =
     ap (λ zs. (k, x) ∷ zs) (enumerate-append (k + 1) xs ys ∙ ap (λ n. enumerate_from (k + 1) xs ++ enumerate_from n ys) (let e : k + 1 + length xs ≡ k + suc (length xs) = omega arith in e))
 
+-- what holds below a number holds of the first items
 low_numbers : {A : Type 0} (P : ℕ × A → Type 0) (k n : ℕ) (xs : List A) → k + length xs ≤ n → ((i : ℕ) (x : A) → i < n → P (i, x)) → AllByRecursion P (enumerate_from k xs)
 low_numbers P k n [] h f = tt
 low_numbers P k n (x ∷ xs) h f = (f k x (omega arith), low_numbers P (k + 1) n xs (omega arith) f)
 
+-- and what holds from it on of those behind them
 high_numbers : {A : Type 0} (P : ℕ × A → Type 0) (k n : ℕ) (xs : List A) → n ≤ k → ((i : ℕ) (x : A) → n ≤ i → P (i, x)) → AllByRecursion P (enumerate_from k xs)
 high_numbers P k n [] h f = tt
 high_numbers P k n (x ∷ xs) h f = (f k x h, high_numbers P (k + 1) n xs (omega arith) f)
@@ -71,6 +74,7 @@ one_alike x y f g false false e h = refl
 one_alike x y f g true false e h = absurd (cc)
 one_alike x y f g false true e h = absurd (cc)
 
+-- by its number and its start
 last_alike : (was now : List Piece) (t u : ℕ × Piece → Bool) (k : ℕ) (last : Piece) (extra : List ℕ) → t (k, last) ≡ u (k, longer last extra) → piece_start was k ≡ piece_start now k
     → map (seen was) (filter t ((k, last) ∷ [])) ≡ map (seen now) (filter u ((k, longer last extra) ∷ []))
 last_alike was now t u k last extra here start = one_alike (k, last) (k, longer last extra) (seen was) (seen now) (t (k, last)) (u (k, longer last extra)) here (ap (λ n. (n, last.place)) start)
@@ -107,6 +111,7 @@ grown_view front last extra more t u low here high =
 abbrev touches : List Piece → ℕ → ℕ → ℕ × Piece → Bool
 touches pieces from to x = nat_lt (piece_start pieces x.0) to && nat_lt from (piece_start pieces (x.0 + 1))
 
+-- the test of one that starts there
 abbrev starts : List Piece → ℕ → ℕ → ℕ × Piece → Bool
 starts pieces from to x = nat_le from (piece_start pieces x.0) && nat_lt (piece_start pieces x.0) to
 
@@ -114,6 +119,7 @@ starts pieces from to x = nat_le from (piece_start pieces x.0) && nat_lt (piece_
 same_touch : (a b c d from to : ℕ) → a ≡ b → c ≡ d → (nat_lt a to && nat_lt from c) ≡ (nat_lt b to && nat_lt from d)
 same_touch a b c d from to e f = rw (e, f) refl
 
+-- the same of where packets start
 same_start : (a b from to : ℕ) → a ≡ b → (nat_le from a && nat_lt a to) ≡ (nat_le from b && nat_lt b to)
 same_start a b from to e = rw e refl
 
@@ -121,6 +127,7 @@ same_start a b from to e = rw e refl
 first_fails : (b c : Bool) → b ≡ false → (b && c) ≡ false
 first_fails b c e = rw e refl
 
+-- or of which the second fails
 second_fails : (b c : Bool) → c ≡ false → (b && c) ≡ false
 second_fails true c e = e
 second_fails false c e = refl
@@ -169,6 +176,7 @@ places_alike was now (x ∷ xs) (y ∷ ys) e =
     let r : x.1.place.r ≡ y.1.place.r = ap (λ (z : ℕ × Place). z.1.r) first in
     rw (r, places_alike was now xs ys behind) refl
 
+-- so RES is the same
 pub res_alike : (levels : ℕ) (was now : List Piece) (xs ys : List (ℕ × Piece)) → map (seen was) xs ≡ map (seen now) ys → res_of levels xs ≡ res_of levels ys
 res_alike levels was now [] [] e = refl
 res_alike levels was now [] (y ∷ ys) e = absurd (cc)
@@ -179,6 +187,7 @@ res_alike levels was now (x ∷ xs) (y ∷ ys) e =
     let r : x.1.place.r ≡ y.1.place.r = ap (λ (z : ℕ × Place). z.1.r) first in
     rw (r, places_alike was now xs ys behind) refl
 
+-- and so is the rest of the header
 pub header_alike : (c d : Known) (eseq res from : ℕ) (xs ys : List (ℕ × Piece)) → c.head ≡ d.head → map (seen c.pieces) xs ≡ map (seen d.pieces) ys → body_header c eseq res from xs ≡ body_header d eseq res from ys
 header_alike c d eseq res from [] [] h e = refl
 header_alike c d eseq res from [] (y ∷ ys) h e = absurd (cc)

@@ -25,6 +25,7 @@ filter_less_by : (x : List ℕ) (xs ys : List (List ℕ)) (b : Bool) → length 
 filter_less_by x xs ys true h = omega (arith, h, length-append x (joined xs), length-append x (joined ys))
 filter_less_by x xs ys false h = omega (arith, h, length-append x (joined xs))
 
+-- one after another
 filter_less : (t : List ℕ → Bool) (xs : List (List ℕ)) → length (joined (filter t xs)) ≤ length (joined xs)
 filter_less t [] = omega arith
 filter_less t (x ∷ xs) = filter_less_by x xs (filter t xs) (t x) (filter_less t xs)
@@ -58,11 +59,13 @@ unended_bytes p c some e =
     let is : payloads p c ≡ closed_payloads (room p) (stretches p.split c.pieces) = rw e refl in
     omega (arith, bytes_are (payloads p c), ap (λ (l : List (List ℕ)). length (joined l)) is, closed_less (room p) (stretches p.split c.pieces) some, ap length (stretches_join p.split c.pieces), total_is c.pieces)
 
+-- with EOC there are two more
 ended_bytes : (p : Plan) (c : Known) → 1 ≤ room p → c.ended ≡ true → sum_by (λ b. length b) (payloads p c) ≡ total c.pieces + 2
 ended_bytes p c some e =
     let is : payloads p c ≡ flat_map (chunks (room p)) (with_eoc (stretches p.split c.pieces)) = rw e refl in
     omega (arith, bytes_are (payloads p c), ap (λ (l : List (List ℕ)). length (joined l)) is, ap length (all_chunks_join (room p) (with_eoc (stretches p.split c.pieces)) some), ap length (with_eoc_joins (stretches p.split c.pieces)), length-append (joined (stretches p.split c.pieces)) (255 ∷ 217 ∷ []), ap length (stretches_join p.split c.pieces), total_is c.pieces)
 
+-- none of the payloads is empty
 unended_some : (p : Plan) (c : Known) → 1 ≤ room p → c.ended ≡ false → AllByRecursion (λ b. 1 ≤ length b) (payloads p c)
 unended_some p c some e =
     let is : payloads p c ≡ closed_payloads (room p) (stretches p.split c.pieces) = rw e refl in
@@ -172,6 +175,7 @@ many_of p c = 1 + length (payloads p c)
 abbrev pub all_of : Plan → ℕ → ℕ → List Known → List Datagram
 all_of p i at known = flat_map (λ ds. ds) (placed (many_of p) (those_of p) i at known)
 
+-- are all datagrams
 pub datagrams_placed : (p : Plan) (known : List Known) → datagrams_by p known ≡ all_of p 0 0 known
 datagrams_placed p known =
     sym (flat_map-map (λ (ds : List Datagram). ds) (λ (x : ℕ × Known). those_of p x.0 (position_of p known x.0) x.1) (enumerate_from 0 known))
@@ -183,6 +187,7 @@ sent_with p c known e =
     let n = prefix_len (λ (x : Known). nat_le (length x.header) (room p)) known in
     rw e (ap (λ k. take k (c ∷ known)) (let s : 1 + n ≡ suc n = omega arith in s))
 
+-- one without room ends the list
 none_behind : (p : Plan) (c : Known) (known : List Known) → nat_le (length c.header) (room p) ≡ false → sendable p (c ∷ known) ≡ []
 none_behind p c known e = rw e refl
 

@@ -35,10 +35,12 @@ hands n x =
     let left : filter (λ (y : Held). not (y.number == n)) (h ∷ []) ≡ [] = rw e refl in
     ap (next_at n (record { base = Some n; due = 0; held = h ∷ [] })) found ∙ ap (λ l. Hand x (record { base = Some ((n + 1) % 2 ^ 24); due = 0; held = l })) left
 
+-- one that is handed on is decoded
 drained_hand : (m : ℕ) (r : Receiver) (x : Datagram) (w : Window) → next r.window r.window.base ≡ Hand x w → drained (suc m) r ≡ drained m (followed (record r { window = w }) (decoded r.decoder x x.payload))
 unfolding drained
 drained_hand m r x w e = rw (e, drained) refl
 
+-- and where nothing is handed on nothing changes
 drained_none : (m : ℕ) (r : Receiver) → next r.window r.window.base ≡ Nothing → drained (suc m) r ≡ r
 unfolding drained
 drained_none m r e = rw (e, drained) refl
@@ -56,9 +58,11 @@ abbrev IsNext : Option ℕ → ℕ → Type 0
 IsNext None n = Unit {0}
 IsNext (Some base) n = base ≡ n
 
+-- a number is not ahead of itself
 ahead_none : (n : ℕ) → ahead n n ≡ 0
 ahead_none n = omega arith
 
+-- so the window keeps it
 next_kept : (window : ℕ) (base : Option ℕ) (n : ℕ) → 1 ≤ window → IsNext base n → offer window n (record { base = base; due = 0; held = [] }) base ≡ Kept
 next_kept window None n some is = refl
 next_kept window (Some base) n some is =
@@ -151,13 +155,13 @@ zip_length (x ∷ xs) (f ∷ frames) a = ap suc (zip_length xs frames a.1)
 
 -- so everything is given
 pub in_order_gives_all : InOrderGivesAll
-in_order_gives_all sent codestreams datagrams pick c bytes some kind source =
+in_order_gives_all sent codestreams datagrams pick c some kind source =
     let all = flat_map datagrams_of sent in
     let same : length all ≡ length datagrams = zip_length all datagrams c.are_datagrams in
     let numbers : map extended_number all ≡ map (λ j. (c.number + j) % 2 ^ 24) (range_with_len 0 (length all)) = c.numbers ∙ ap (λ n. map (λ j. (c.number + j) % 2 ^ 24) (range_with_len 0 n)) (sym same) in
     let one = all_imply (λ (x : Datagram). (x.rtp.source ≡ c.source) × (x.rtp.kind ≡ c.kind)) (λ x. (x.rtp.source ≡ c.source) × (x.rtp.kind ≡ pick.kind)) all (λ x h. (h.0, h.1 ∙ sym kind)) c.one_source in
     let f = frames_taken pick pick.source None at_start [] 0 c.source all datagrams c.are_datagrams some one source (counted_up c.number 0 all None numbers tt) 0 in
-    let rules = runs_give sent codestreams datagrams (λ i. true) c bytes in
+    let rules = runs_give sent codestreams datagrams (λ i. true) c in
     let fed_all = fed at_start (handed (λ i. true) 0 all) in
     let every : fed_all.precincts ≡ flat_map precincts_in sent = rules.0 ∙ (reached_placed (λ i. true) sent ∙ all_reached 0 0 sent) in
     let got = received pick datagrams in

@@ -55,3 +55,6 @@ pub mod ArrivalSteps
 pub mod ReceiverSteps
 pub mod ReceiverRuns
 pub mod ReceiverLaws
+pub mod DueSaid
+pub mod DueLaws
+pub mod ClosedFound

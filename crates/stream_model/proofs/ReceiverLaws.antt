@@ -1,20 +1,21 @@
 -- Whatever arrives of a stream, the rules of a receiver give what is reached.
-use Rattle.std.proofs.Common.{◌≡◌, ◌⊎◌, ◌<◌, ◌≤◌, ◌+◌, ◌-◌, ◌%◌, ◌^◌, ◌&&◌, ℕ, zero, suc, Bool, true, false, List, [], ◌∷◌, ◌++◌, map, length, get_or, Option, Some, None, subst, refl, sym, ◌∙◌, ap, inl, inr, arith, if◌then◌else◌}
+use Rattle.std.proofs.Common.{◌≡◌, ◌⊎◌, ◌<◌, ◌≤◌, ◌+◌, ◌-◌, ◌%◌, ◌^◌, ◌&&◌, ℕ, zero, suc, Bool, true, false, List, [], ◌∷◌, ◌++◌, map, length, take, get_or, Option, Some, None, subst, refl, sym, ◌∙◌, ap, inl, inr, arith, if◌then◌else◌}
 use Rattle.std.specs.Prelude.{nat_lt, slice_index}
-use Rattle.std.specs.List.{AllByRecursion, AllZip, filter, flat_map, range_with_len}
-use Rattle.std.proofs.lemmas.Bool.{lt-ltb, lt-leb}
-use Rattle.std.proofs.lemmas.List.{append-nil}
+use Rattle.std.specs.List.{AllZip, filter, flat_map, range_with_len}
+use Rattle.std.proofs.lemmas.Bool.{cases_lt, lt-ltb, lt-leb}
+use Rattle.std.proofs.lemmas.List.{append-nil, length-take, get_or-take}
 use Rattle.wire_model.specs.Payload.{Main}
 use Rattle.wire_model.specs.Datagram.{Datagram, IsDatagram}
-use Rattle.codestream_model.specs.Bytes.{IsBytes}
 use Rattle.stream_model.specs.Report.{Counts}
-use Rattle.stream_model.specs.Arrivals.{is_of_kind, source_of, picked_source, picked, Arrive, datagram_at, in_time, base, positions_in_time}
+use Rattle.stream_model.specs.Arrivals.{is_of_kind, source_of, picked_source, picked, Arrive, datagram_at, in_time, base, highest_arrival, positions_in_time}
 use Rattle.stream_model.specs.Stream.{Sent, datagrams_of, Carry, extended_number}
 use Rattle.stream_model.specs.Decoder.{Decoder, at_start, Settled, take_gap}
 use Rattle.stream_model.specs.Window.{Window}
 use Rattle.stream_model.specs.Receiver.{Pick, Receiver, new_receiver, received, flushed}
 use Rattle.stream_model.specs.RunLaws.{fed, handed, given_before, reached_in}
-use Rattle.stream_model.specs.StreamLaws.{GivesWhatIsReached, WindowIsAtBase}
+use Rattle.stream_model.specs.StreamLaws.{HasFed, HandsOnInOrder, GivesWhatIsReached, WindowIsAtBase}
+use Rattle.stream_model.proofs.Bases.{in_time-le-highest, not_true}
+use Rattle.stream_model.proofs.ArrivalSteps.{base_most, highest_in_time}
 use Rattle.stream_model.proofs.CountedFrames.{each_frame_is_counted_once}
 use Rattle.stream_model.proofs.InOrderReceived.{zip_length}
 use Rattle.stream_model.proofs.RunLaws.{runs_give}
@@ -43,6 +44,7 @@ handed_items there dg k (x ∷ xs) h =
 abbrev AddsNothing : Decoder → Settled → Type 0
 AddsNothing d s = (s.precincts ≡ []) × (s.decoder.unsupported ≡ d.unsupported) × (s.decoder.disagreed ≡ d.disagreed) × (s.decoder.broken ≡ d.broken)
 
+-- however many they are
 trailing : (d : Decoder) (there : ℕ → Bool) (dg : ℕ → Datagram) (p n : ℕ) → ((i : ℕ) → p ≤ i → there i ≡ false) → AddsNothing d (fed d (items there dg p n))
 trailing d there dg p zero none = (refl, refl, refl, refl)
 trailing d there dg p (suc n) none =
@@ -50,15 +52,15 @@ trailing d there dg p (suc n) none =
     subst P (sym (none p (omega arith))) (trailing (take_gap d) there dg (p + 1) n (λ i low. none i (omega arith)))
 
 -- what was fed up to a position behind which nothing is there is what is reached
-reached_by : (sent : List Sent) (codestreams datagrams : List (List ℕ)) (there : ℕ → Bool) (q : ℕ) → Carry sent codestreams datagrams → AllByRecursion IsBytes codestreams → q ≤ length datagrams → ((i : ℕ) → q ≤ i → there i ≡ false)
+reached_by : (sent : List Sent) (codestreams datagrams : List (List ℕ)) (there : ℕ → Bool) (q : ℕ) → Carry sent codestreams datagrams → q ≤ length datagrams → ((i : ℕ) → q ≤ i → there i ≡ false)
     → ((fed at_start (items there (at (flat_map datagrams_of sent)) 0 q)).precincts ≡ reached_in there sent)
     × ((fed at_start (items there (at (flat_map datagrams_of sent)) 0 q)).decoder.unsupported ≡ 0) × ((fed at_start (items there (at (flat_map datagrams_of sent)) 0 q)).decoder.disagreed ≡ 0) × ((fed at_start (items there (at (flat_map datagrams_of sent)) 0 q)).decoder.broken ≡ 0)
-reached_by sent codestreams datagrams there q c bytes within none =
+reached_by sent codestreams datagrams there q c within none =
     let xs = flat_map datagrams_of sent in
     let dg = at xs in
     let n = length xs in
     let size : n ≡ length datagrams = zip_length xs datagrams c.are_datagrams in
-    let rules = runs_give sent codestreams datagrams there c bytes in
+    let rules = runs_give sent codestreams datagrams there c in
     let list : handed there 0 xs ≡ items there dg 0 n = handed_items there dg 0 xs (λ j. ap dg (let e : 0 + j ≡ j = omega arith in e)) in
     let split = fed_further there dg q n (omega (arith, within, size)) in
     let all : fed at_start (handed there 0 xs) ≡ given_before (fed at_start (items there dg 0 q)).precincts (fed (fed at_start (items there dg 0 q)).decoder (items there dg q (n - q))) = ap (fed at_start) list ∙ split in
@@ -77,6 +79,7 @@ are_at (x ∷ xs) [] i a low = absurd a
 are_at (x ∷ xs) (b ∷ datagrams) zero a low = a.0
 are_at (x ∷ xs) (b ∷ datagrams) (suc i) a low = are_at xs datagrams i a.1 (omega arith)
 
+-- each has the number of its position
 numbers_at : (number k : ℕ) (xs : List Datagram) (i : ℕ) → map extended_number xs ≡ map (λ j. (number + j) % 2 ^ 24) (range_with_len k (length xs)) → i < length xs → extended_number (at xs i) ≡ num number (k + i)
 numbers_at number k [] i e low = absurd (omega arith)
 numbers_at number k (x ∷ xs) zero e low = let first : extended_number x ≡ (number + k) % 2 ^ 24 = cc in first ∙ ap (num number) (let z : k ≡ k + 0 = omega arith in z)
@@ -84,6 +87,7 @@ numbers_at number k (x ∷ xs) (suc i) e low =
     let behind : map extended_number xs ≡ map (λ j. (number + j) % 2 ^ 24) (range_with_len (k + 1) (length xs)) = cc in
     numbers_at number (k + 1) xs i behind (omega arith) ∙ ap (num number) (let z : k + 1 + i ≡ k + suc i = omega arith in z)
 
+-- so they are those of the stream
 stream_at : (sent : List Sent) (codestreams datagrams : List (List ℕ)) (c : Carry sent codestreams datagrams) → IsStreamAt c.number (at (flat_map datagrams_of sent)) datagrams
 stream_at sent codestreams datagrams c =
     let xs = flat_map datagrams_of sent in
@@ -116,18 +120,20 @@ and_true : (b : Bool) → b ≡ (b && true)
 and_true true = refl
 and_true false = refl
 
+-- and one that fails
 and_not : (b : Bool) → (b && false) ≡ false
 and_not true = refl
 and_not false = refl
 
 -- at the end
-at_end : (number : ℕ) (dg : ℕ → Datagram) (end window : ℕ) (events : List ℕ) (r : Receiver) → end < 8388608 → Known number dg end window events r → AtEnd dg end (λ i. in_time events i window) r (flushed r) × (r.kept ≡ length (positions_in_time events window))
+at_end : (number : ℕ) (dg : ℕ → Datagram) (end window : ℕ) (events : List ℕ) (r : Receiver) → end < 8388608 → Known number dg end window events r → AtEnd dg end (base events window) (λ i. in_time events i window) r (flushed r) × (r.kept ≡ length (positions_in_time events window))
 at_end number dg end window [] r few (w, d, p, k) =
     let is : flushed r ≡ r = drained_empty r w in (
       record {
         q = 0;
         within = omega arith;
         none = λ i low. refl;
+        least = λ top low free. omega arith;
         decoder = ap (λ (x : Receiver). x.decoder) is ∙ d;
         precincts = ap (λ (x : Receiver). x.precincts) is ∙ p;
         counts = (ap (λ (x : Receiver). x.kept) is, ap (λ (x : Receiver). x.refused) is, ap (λ (x : Receiver). x.source) is);
@@ -158,16 +164,16 @@ counts_by k o f u d b k' o' f' u' d' b' e1 e2 e3 e4 e5 e6 = rw (e1, e2, e3, e4, 
 
 -- the rules give what is reached
 pub gives_what_is_reached : GivesWhatIsReached
-gives_what_is_reached sent codestreams datagrams frames events pick c bytes some a =
+gives_what_is_reached sent codestreams datagrams frames events pick c some a =
     let dg = at (flat_map datagrams_of sent) in
     let end = length datagrams in
     let r = received pick frames in
     let k = all_known sent codestreams datagrams frames events pick c some a in
     let early = before_end c.number dg end pick.window events r some k.0 in
-    let now = reached_by sent codestreams datagrams (λ i. in_time events i pick.window && nat_lt i (base events pick.window)) early.0 c bytes early.1 early.3 in
+    let now = reached_by sent codestreams datagrams (λ i. in_time events i pick.window && nat_lt i (base events pick.window)) early.0 c early.1 early.3 in
     let late = at_end c.number dg end pick.window events r c.few k.0 in
     let e = late.0 in
-    let last = reached_by sent codestreams datagrams (λ i. in_time events i pick.window) e.q c bytes e.within e.none in
+    let last = reached_by sent codestreams datagrams (λ i. in_time events i pick.window) e.q c e.within e.none in
     let s = flushed r in
     let sum : s.kept + s.old + s.refused ≡ length frames = each_frame_is_counted_once pick frames in
     let kept : s.kept ≡ length (positions_in_time events pick.window) = e.counts.0 ∙ late.1 in
@@ -184,6 +190,53 @@ window_by : (number : ℕ) (dg : ℕ → Datagram) (end window : ℕ) (events : 
 window_by number dg end window [] r some k = absurd (omega arith)
 window_by number dg end window (x ∷ xs) r some (h, k) = (ap (λ (w : Window). w.base) h.window, ap (λ (w : Window). w.due) h.window)
 
+-- so with a stream
 pub window_is_at_base : WindowIsAtBase
 window_is_at_base sent codestreams datagrams frames events pick c some a any =
     window_by c.number (at (flat_map datagrams_of sent)) (length datagrams) pick.window events (received pick frames) any (all_known sent codestreams datagrams frames events pick c some a).0
+
+-- the front of what is handed on
+front_handed : (there : ℕ → Bool) (dg : ℕ → Datagram) (k : ℕ) (ys : List Datagram) → ((j : ℕ) → j < length ys → dg (k + j) ≡ at ys j) → handed there k ys ≡ items there dg k (length ys)
+front_handed there dg k [] h = refl
+front_handed there dg k (x ∷ xs) h =
+    let first : dg k ≡ x = ap dg (let e : k ≡ k + 0 = omega arith in e) ∙ h 0 (omega arith) in
+    ap (λ y. (if there k then Some y else None) ∷ handed there (k + 1) xs) (sym first)
+    ∙ ap (λ l. (if there k then Some (dg k) else None) ∷ l) (front_handed there dg (k + 1) xs (λ j low. ap dg (let e : k + 1 + j ≡ k + suc j = omega arith in e) ∙ h (suc j) (omega arith)))
+
+-- by positions
+front_items : (there : ℕ → Bool) (xs : List Datagram) (n : ℕ) → n ≤ length xs → handed there 0 (take n xs) ≡ items there (at xs) 0 n
+front_items there xs n most =
+    let size : length (take n xs) ≡ n = omega (arith, length-take n xs) in
+    front_handed there (at xs) 0 (take n xs) (λ j low. ap (at xs) (let e : 0 + j ≡ j = omega arith in e) ∙ sym (get_or-take n xs j nowhere (omega (arith, low, size)))) ∙ ap (items there (at xs) 0) size
+
+-- what was fed, by other words for the items
+fed_as : (xs ys : List (Option Datagram)) (r : Receiver) → xs ≡ ys → r.precincts ≡ (fed at_start xs).precincts → r.decoder ≡ (fed at_start xs).decoder → HasFed ys r
+fed_as xs ys r e p d = record { precincts = p ∙ ap (λ l. (fed at_start l).precincts) e; decoder = d ∙ ap (λ l. (fed at_start l).decoder) e }
+
+-- each position below the base was handed on, and at the end each up to the highest arrival
+handed_by : (number : ℕ) (xs : List Datagram) (window : ℕ) (events : List ℕ) (r : Receiver) → 1 ≤ window → length xs < 8388608 → 1 ≤ length events → Known number (at xs) (length xs) window events r
+    → HasFed (handed (λ i. in_time events i window) 0 (take (base events window) xs)) r × HasFed (handed (λ i. in_time events i window) 0 (take (highest_arrival events + 1) xs)) (flushed r)
+handed_by number xs window [] r some few any k = absurd (omega arith)
+handed_by number xs window (x ∷ more) r some few any (h, k) =
+    let events = x ∷ more in
+    let t : ℕ → Bool = λ i. in_time events i window in
+    let top = highest_arrival events + 1 in
+    let e = flush_known number (at xs) (length xs) (base events window) t r h few in
+    let above : (i : ℕ) → top ≤ i → t i ≡ false = λ i low. not_true (t i) (λ u. let m = in_time-le-highest events i window u in omega (arith, m, low)) in
+    let most : e.q ≤ top = e.least top (base_most x more window some) above in
+    let least : top ≤ e.q = elim (cases_lt (highest_arrival events) e.q) [
+      | inl u ↦ omega arith
+      | inr u ↦ let yes = highest_in_time x more window some in let late = e.none (highest_arrival events) u in absurd (cc)
+    ] in
+    let same : e.q ≡ top = omega arith in (
+      fed_as (items t (at xs) 0 (base events window)) (handed t 0 (take (base events window) xs)) r (sym (front_items t xs (base events window) h.within)) h.precincts h.decoder,
+      fed_as (items t (at xs) 0 e.q) (handed t 0 (take top xs)) (flushed r) (ap (items t (at xs) 0) same ∙ sym (front_items t xs top (omega (arith, same, e.within)))) e.precincts e.decoder,
+    )
+
+-- so the window hands on in order
+pub hands_on_in_order : HandsOnInOrder
+hands_on_in_order sent codestreams datagrams frames events pick c some a any =
+    let xs = flat_map datagrams_of sent in
+    let size : length datagrams ≡ length xs = sym (zip_length xs datagrams c.are_datagrams) in
+    let K : ℕ → Type 0 = λ n. Known c.number (at xs) n pick.window events (received pick frames) in
+    handed_by c.number xs pick.window events (received pick frames) some (omega (arith, size, c.few)) any (subst K size (all_known sent codestreams datagrams frames events pick c some a).0)

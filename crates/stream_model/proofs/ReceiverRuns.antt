@@ -2,6 +2,7 @@
 use Rattle.std.proofs.Common.{◌≡◌, ◌⊎◌, ◌<◌, ◌≤◌, ◌+◌, ◌-◌, ◌*◌, ◌==◌, ◌&&◌, ◌||◌, ℕ, zero, suc, max, Bool, true, false, cond, List, [], ◌∷◌, ◌++◌, map, length, Option, Some, None, subst, refl, sym, ◌∙◌, ap, inl, inr, arith, append_assoc, if◌then◌else◌}
 use Rattle.std.specs.Prelude.{slice_index}
 use Rattle.std.specs.List.{AllByRecursion, filter, fold, range_with_len}
+use Rattle.std.proofs.lemmas.Bool.{cases_lt}
 use Rattle.std.proofs.lemmas.Bool.Decides.{eqb_tells}
 use Rattle.std.proofs.lemmas.List.{append-nil}
 use Rattle.wire_model.specs.Datagram.{Datagram, IsDatagram, datagram_of}
@@ -17,7 +18,7 @@ use Rattle.stream_model.specs.Receiver.{Pick, Receiver, drained, drain, keep, of
 use Rattle.stream_model.specs.RunLaws.{fed}
 use Rattle.stream_model.proofs.DueGrows.{none_left}
 use Rattle.stream_model.proofs.WindowSteps.{num, held_at, mem, window_at, ahead_is}
-use Rattle.stream_model.proofs.WindowDrains.{items}
+use Rattle.stream_model.proofs.WindowDrains.{items, mem_all}
 use Rattle.stream_model.proofs.ArrivalSteps.{not_arrived, alone, base_is, one_more, none_of}
 use Rattle.stream_model.proofs.ReceiverSteps.{Holding, holding_as, HasCounts, keep_holding, due_holding, Stepped, step_on}
 
@@ -62,6 +63,7 @@ abbrev pub Known : ℕ → (ℕ → Datagram) → ℕ → ℕ → List ℕ → R
 Known number dg end window [] r = (r.window ≡ empty) × (r.decoder ≡ at_start) × (r.precincts ≡ []) × (r.kept ≡ 0)
 Known number dg end window (x ∷ xs) r = Holding number dg end (base (x ∷ xs) window) (λ i. in_time (x ∷ xs) i window) r × (r.kept ≡ length (positions_in_time (x ∷ xs) window))
 
+-- what is known goes by the window, the decoder, the precincts and the count
 known_as : (number : ℕ) (dg : ℕ → Datagram) (end window : ℕ) (events : List ℕ) (r s : Receiver) → s.window ≡ r.window → s.decoder ≡ r.decoder → s.precincts ≡ r.precincts → s.kept ≡ r.kept → Known number dg end window events r → Known number dg end window events s
 known_as number dg end window [] r s w d p k t = (w ∙ t.0, d ∙ t.1, p ∙ t.2, k ∙ t.3)
 known_as number dg end window (x ∷ xs) r s w d p k t =
@@ -132,6 +134,7 @@ first_event datagrams f more (a ∷ rest) e = (a, rest, refl, cc, cc)
 picked_no : (pick : Pick) (src : ℕ) (f : List ℕ) (frames others : List (List ℕ)) → is_picked pick src f ≡ false → filter (is_picked pick src) (f ∷ frames) ≡ others → filter (is_picked pick src) frames ≡ others
 picked_no pick src f frames others isnt e = sym (ap (λ b. cond b (f ∷ filter (is_picked pick src) frames) (filter (is_picked pick src) frames)) isnt) ∙ e
 
+-- a picked one is the first of them
 picked_yes : (pick : Pick) (src : ℕ) (f : List ℕ) (frames others : List (List ℕ)) → is_picked pick src f ≡ true → filter (is_picked pick src) (f ∷ frames) ≡ others → f ∷ filter (is_picked pick src) frames ≡ others
 picked_yes pick src f frames others is e = sym (ap (λ b. cond b (f ∷ filter (is_picked pick src) frames) (filter (is_picked pick src) frames)) is) ∙ e
 
@@ -213,6 +216,7 @@ frames_known number dg datagrams s pick src (f ∷ frames) before events r some 
 abbrev due_at : ℕ → List ℕ → ℕ
 due_at b hs = fold max 0 (map (λ i. i - b + 1) hs)
 
+-- is reckoned from the numbers
 dues_are : (number : ℕ) (dg : ℕ → Datagram) (b m end : ℕ) (hs : List ℕ) → AllByRecursion (λ i. (b ≤ i) × (i < end)) hs → end < 8388608
     → fold max m (map (λ h. ahead (num number b) h.number + 1) (map (held_at number dg) hs)) ≡ fold max m (map (λ i. i - b + 1) hs)
 dues_are number dg b m end [] all few = refl
@@ -220,14 +224,17 @@ dues_are number dg b m end (i ∷ hs) all few =
     ap (λ a. fold max (max m (a + 1)) (map (λ h. ahead (num number b) h.number + 1) (map (held_at number dg) hs))) (ahead_is number b i all.0.0 (omega (arith, all.0.1, few)))
     ∙ dues_are number dg b (max m (i - b + 1)) end hs all.1 few
 
+-- it stays below the end
 due_most : (b m end : ℕ) (hs : List ℕ) → AllByRecursion (λ i. (b ≤ i) × (i < end)) hs → b + m ≤ end → b + fold max m (map (λ i. i - b + 1) hs) ≤ end
 due_most b m end [] all within = within
 due_most b m end (i ∷ hs) all within = due_most b (max m (i - b + 1)) end hs all.1 (omega (arith, all.0.0, all.0.1, within))
 
+-- a maximum is no less than where it began
 max_least : (b m : ℕ) (hs : List ℕ) → m ≤ fold max m (map (λ i. i - b + 1) hs)
 max_least b m [] = omega arith
 max_least b m (i ∷ hs) = let h = max_least b (max m (i - b + 1)) hs in omega (arith, h)
 
+-- all that is held is due
 due_reaches : (b m i : ℕ) (hs : List ℕ) → mem hs i ≡ true → i - b + 1 ≤ fold max m (map (λ j. j - b + 1) hs)
 due_reaches b m i [] t = absurd (cc)
 due_reaches b m i (j ∷ hs) t = elim (eqb_tells j i) [
@@ -235,17 +242,34 @@ due_reaches b m i (j ∷ hs) t = elim (eqb_tells j i) [
   | inr e ↦ due_reaches b (max m (j - b + 1)) i hs (let f : (false || mem hs i) ≡ true = rw e.0 at t in f)
 ]
 
+-- the second of two holds
+either_holds : (a c : Bool) → c ≡ true → (a || c) ≡ true
+either_holds true c e = refl
+either_holds false c e = e
+
+-- what is due is nothing, or reaches up to one that is held
+due_is : (b m : ℕ) (hs : List ℕ) → (fold max m (map (λ j. j - b + 1) hs) ≡ m) ⊎ ((i : ℕ) × (mem hs i ≡ true) × (i - b + 1 ≡ fold max m (map (λ j. j - b + 1) hs)))
+due_is b m [] = inl refl
+due_is b m (j ∷ hs) = elim (due_is b (max m (j - b + 1)) hs) [
+  | inr (i, t, e) ↦ inr (i, either_holds (j == i) (mem hs i) t, e)
+  | inl e ↦ elim (cases_lt m (j - b + 1)) [
+    | inl less ↦ let s = same_number j in inr (j, rw s refl, omega (arith, e, less))
+    | inr most ↦ inl (omega (arith, e, most))
+  ]
+]
+
 -- what is known at the end: the decoder was fed all positions up to one behind which nothing is there
-pub record AtEnd (dg : ℕ → Datagram) (end : ℕ) (there : ℕ → Bool) (r s : Receiver) : Type 0 where
+pub record AtEnd (dg : ℕ → Datagram) (end b : ℕ) (there : ℕ → Bool) (r s : Receiver) : Type 0 where
   pub q : ℕ
   pub within : q ≤ end
   pub none : (i : ℕ) → q ≤ i → there i ≡ false
+  pub least : (top : ℕ) → b ≤ top → ((i : ℕ) → top ≤ i → there i ≡ false) → q ≤ top
   pub decoder : s.decoder ≡ (fed at_start (items there dg 0 q)).decoder
   pub precincts : s.precincts ≡ (fed at_start (items there dg 0 q)).precincts
   pub counts : HasCounts r.kept r s
 
 -- the flush
-pub flush_known : (number : ℕ) (dg : ℕ → Datagram) (end b : ℕ) (there : ℕ → Bool) (r : Receiver) → Holding number dg end b there r → end < 8388608 → AtEnd dg end there r (flushed r)
+pub flush_known : (number : ℕ) (dg : ℕ → Datagram) (end b : ℕ) (there : ℕ → Bool) (r : Receiver) → Holding number dg end b there r → end < 8388608 → AtEnd dg end b there r (flushed r)
 flush_known number dg end b there r h few =
     let u = due_at b h.hs in
     let s = record r { window = make_all_due r.window r.window.base } in
@@ -258,6 +282,20 @@ flush_known number dg end b there r h few =
         | inr t ↦ t
         | inl t ↦ absurd (let m = due_reaches b 0 i h.hs (h.same i (omega (arith, d.1, low)) ∙ t) in omega (arith, m, d.1, low))
       ];
+      least = λ top low free. elim (cases_lt top d.0) [
+        | inr t ↦ t
+        | inl t ↦ elim (cases_lt top (b + u)) [
+          | inr above ↦ let yes : there top ≡ true = d.3 top above t in let no : there top ≡ false = free top (omega arith) in absurd (cc)
+          | inl inside ↦ elim (due_is b 0 h.hs) [
+            | inl z ↦ absurd (omega (arith, z, low, inside))
+            | inr (i, m, e) ↦
+                let at_least = mem_all (λ j. (b ≤ j) × (j < end)) h.hs i h.all m in
+                let yes : there i ≡ true = sym (h.same i at_least.0) ∙ m in
+                let no : there i ≡ false = free i (omega (arith, e, inside, at_least.0)) in
+                absurd (cc)
+          ]
+        ]
+      ];
       decoder = d.4.decoder;
       precincts = d.4.precincts;
       counts = d.5;
@@ -269,6 +307,7 @@ unfolding drained
 drained_nothing zero r e = refl
 drained_nothing (suc m) r e = rw (e, drained) refl
 
+-- so the receiver stays as it is
 pub drained_empty : (r : Receiver) → r.window ≡ empty → flushed r ≡ r
 drained_empty r w =
     let due : make_all_due r.window r.window.base ≡ empty = ap (λ v. make_all_due v v.base) w in

@@ -38,6 +38,7 @@ record Parted (h : Head) (ahead after : List Place) (xs : List Content) (bs : Li
   sizes : length ahead ≡ length said
   are : ArePackets h after more rest
 
+-- packets are parted so
 part_packets : (h : Head) (ahead after : List Place) (xs : List Content) (bs : List (List ℕ)) → ArePackets h (ahead ++ after) xs bs → Parted h ahead after xs bs
 part_packets h [] after xs bs a = record { said = []; more = xs; whole = []; rest = bs; content = refl; packets = refl; size = refl; sizes = refl; are = a }
 part_packets h (p ∷ ahead) after [] bs a = absurd a

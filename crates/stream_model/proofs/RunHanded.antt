@@ -33,12 +33,14 @@ pub joined_marked : (d0 : Decoder) (s : Sent) (run : Option (List Place)) (bytes
 joined_marked d0 s run bytes x g p e o f = let same : (s.stamp == x.rtp.stamp) ≡ true = eq-eqb s.stamp x.rtp.stamp e in rw (same, o, f) refl
 
 -- the mark of a Body
-none_own : (i at : ℕ) (h : PayloadFields) (g : BodyFields) → h ≡ Body g → g.ordb ≡ false → mark_of i at h ≡ []
+pub none_own : (i at : ℕ) (h : PayloadFields) (g : BodyFields) → h ≡ Body g → g.ordb ≡ false → mark_of i at h ≡ []
 none_own i at h g e o = ap (mark_of i at) e ∙ rw o refl
 
+-- with ORDB 1 it is this one
 abbrev pub own_mark : ℕ → ℕ → BodyFields → Mark
 own_mark i at g = record { body = i; place = at + g.pos; pid = g.pid }
 
+-- and the only one
 pub one_own : (i at : ℕ) (h : PayloadFields) (g : BodyFields) → h ≡ Body g → g.ordb ≡ true → mark_of i at h ≡ own_mark i at g ∷ []
 one_own i at h g e o = ap (mark_of i at) e ∙ rw o refl
 
@@ -129,6 +131,7 @@ idle_waits (suc n) d0 c bytes some = settle_waits n (state d0 c None bytes None)
 lost_on : (there : ℕ → Bool) (main i : ℕ) (r : ResyncPoint) → Lost there (main + 1 + i) r → Lost there (main + 1 + (i + 1)) r
 lost_on there main i r (y, low, less, e) = (y, low, omega arith, e)
 
+-- so with all marks
 pub dead_on : (there : ℕ → Bool) (main : ℕ) (s : Sent) (i : ℕ) (ms : List Mark) → Dead there main s (main + 1 + i) ms → Dead there main s (main + 1 + (i + 1)) ms
 dead_on there main s i ms (main_lost, each) =
     (lost_on there main i (record { at = main; precinct = 0 }) main_lost, all_imply (λ m. Lost there (main + 1 + i) (point main s m)) (λ m. Lost there (main + 1 + (i + 1)) (point main s m)) ms (λ m l. lost_on there main i (point main s m) l) each)

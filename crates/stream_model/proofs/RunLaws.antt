@@ -5,7 +5,6 @@ use Rattle.std.proofs.lemmas.Bool.{eq-eqb}
 use Rattle.std.proofs.lemmas.List.Folds.{flat_map-map}
 use Rattle.wire_model.specs.Payload.{PayloadFields, Main, Body, IsPayload}
 use Rattle.wire_model.specs.Datagram.{Datagram, IsDatagram}
-use Rattle.codestream_model.specs.Bytes.{IsBytes}
 use Rattle.codestream_model.proofs.TreeLemmas.{either}
 use Rattle.stream_model.specs.Report.{Precinct}
 use Rattle.stream_model.specs.Stream.{ArePartsOf, Sent, datagrams_of, IsBodyPayload, Carries, packet_span, carried_at, main_position}
@@ -91,7 +90,7 @@ all_fed d main there (s ∷ sent) whole apart other =
     )
 
 -- each is a datagram in some bytes
-have_bytes : (xs : List Datagram) (datagrams : List (List ℕ)) → AllZip IsDatagram xs datagrams → AllByRecursion (λ x. (b : List ℕ) × IsDatagram x b) xs
+pub have_bytes : (xs : List Datagram) (datagrams : List (List ℕ)) → AllZip IsDatagram xs datagrams → AllByRecursion (λ x. (b : List ℕ) × IsDatagram x b) xs
 have_bytes [] datagrams a = tt
 have_bytes (x ∷ xs) [] a = absurd a
 have_bytes (x ∷ xs) (b ∷ datagrams) a = ((b, a.0), have_bytes xs datagrams a.1)
@@ -101,6 +100,7 @@ all_front : {A : Type 0} (P : A → Type 0) (xs ys : List A) → AllByRecursion 
 all_front P [] ys h = tt
 all_front P (x ∷ xs) ys h = (h.0, all_front P xs ys h.1)
 
+-- and of those behind them
 all_back : {A : Type 0} (P : A → Type 0) (xs ys : List A) → AllByRecursion P (xs ++ ys) → AllByRecursion P ys
 all_back P [] ys h = h
 all_back P (x ∷ xs) ys h = all_back P xs ys h.1
@@ -110,19 +110,20 @@ body_by : (s : Sent) (x : Datagram) (h : PayloadFields) (bytes : List ℕ) → x
 body_by s x (Main h) bytes e is p t = absurd is
 body_by s x (Body h) bytes e is p t = record { fields = h; payload = e; stamp = t; marked = p.marked }
 
+-- so with many
 bodies_of : (s : Sent) (rest : List Datagram) → AllByRecursion (λ x. IsBodyPayload x.payload) rest → AllByRecursion (λ x. x.rtp.stamp ≡ s.stamp) rest → AllByRecursion (λ x. (b : List ℕ) × IsDatagram x b) rest → AllByRecursion (IsBodyOf s) rest
 bodies_of s [] a b c = tt
 bodies_of s (x ∷ rest) a b c = (body_by s x x.payload c.0.1.body refl a.0 c.0.1.is_payload (sym b.0), bodies_of s rest a.1 b.1 c.1)
 
 -- the codestreams of a stream
-pub are_whole : (sent : List Sent) (codestreams : List (List ℕ)) → AllZip (λ s codestream. ArePartsOf s.parts codestream) sent codestreams → AllByRecursion Carries sent → AllByRecursion IsBytes codestreams
+pub are_whole : (sent : List Sent) (codestreams : List (List ℕ)) → AllZip (λ s codestream. ArePartsOf s.parts codestream) sent codestreams → AllByRecursion Carries sent
     → AllByRecursion (λ x. (b : List ℕ) × IsDatagram x b) (flat_map datagrams_of sent) → AllByRecursion IsWhole sent
-are_whole [] codestreams a b c d = tt
-are_whole (s ∷ sent) [] a b c d = absurd a
-are_whole (s ∷ sent) (codestream ∷ codestreams) a b c d =
+are_whole [] codestreams a b d = tt
+are_whole (s ∷ sent) [] a b d = absurd a
+are_whole (s ∷ sent) (codestream ∷ codestreams) a b d =
     let mine = all_front (λ (x : Datagram). (b : List ℕ) × IsDatagram x b) (datagrams_of s) (flat_map datagrams_of sent) d in (
-      record { codestream = codestream; parts = a.0; carries = b.0; bytes = c.0; bodies = bodies_of s s.bodies b.0.bodies b.0.stamps.1 mine.1 },
-      are_whole sent codestreams a.1 b.1 c.1 (all_back (λ (x : Datagram). (b : List ℕ) × IsDatagram x b) (datagrams_of s) (flat_map datagrams_of sent) d),
+      record { codestream = codestream; parts = a.0; carries = b.0; bodies = bodies_of s s.bodies b.0.bodies b.0.stamps.1 mine.1 },
+      are_whole sent codestreams a.1 b.1 (all_back (λ (x : Datagram). (b : List ℕ) × IsDatagram x b) (datagrams_of s) (flat_map datagrams_of sent) d),
     )
 
 -- at the start no main header is in force
@@ -138,7 +139,7 @@ reached_placed there sent =
 
 -- the rules give exactly what is reached
 pub runs_give : RunsGiveWhatIsReached
-runs_give sent codestreams datagrams there r bytes =
-    let whole = are_whole sent codestreams r.are_parts r.each bytes (have_bytes (flat_map datagrams_of sent) datagrams r.are_datagrams) in
+runs_give sent codestreams datagrams there r =
+    let whole = are_whole sent codestreams r.are_parts r.each (have_bytes (flat_map datagrams_of sent) datagrams r.are_datagrams) in
     let f = all_fed at_start 0 there sent whole r.apart (none_yet sent) in
     (f.0 ∙ sym (reached_placed there sent), record { unsupported = f.1.0; disagreed = f.1.1; broken = f.1.2 })

@@ -95,6 +95,7 @@ different p q unlike = elim (either ((p.c == q.c) && (p.r == q.r) && (p.k == q.k
       absurd (unlike same)
 ]
 
+-- has the precincts of the order from there on
 pub run_from : (p : Place) (before after : List Place) → ((i : ℕ) → i < length before → p ≡ get_or before i p → ⊥) → from_place p (before ++ p ∷ after) ≡ p ∷ after
 unfolding from_place
 run_from p [] after apart = let e = same_place p in rw e refl

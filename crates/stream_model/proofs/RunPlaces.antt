@@ -173,6 +173,7 @@ find_by t y xs (suc j) x e p one next = elim (either (t y)) [
   | inr q ↦ rw q (next j e)
 ]
 
+-- one that alone passes is found
 find_first : {A : Type 0} (t : A → Bool) (xs : List A) (j : ℕ) (x : A) → slice_get xs j ≡ Some x → t x ≡ true → ((y : A) → Has xs y → t y ≡ true → y ≡ x) → find t xs ≡ Some x
 find_first t [] j x e p one = absurd (cc)
 find_first t (y ∷ xs) j x e p one = find_by t y xs j x e p (one y (inl refl)) (λ k g. find_first t xs k x g p (λ z h r. one z (inr h) r))

@@ -34,7 +34,7 @@ abbrev precinct_of : Head → ℕ → Place → Content → Precinct
 precinct_of h stamp p x = record { stamp = stamp; pid = pid h p; place = p; blocks = x.blocks; bytes = x.bytes }
 
 -- all of a range pass,
-range_all : (t : ℕ → Bool) (a n : ℕ) → ((i : ℕ) → a ≤ i → i < a + n → t i ≡ true) → list_all t (range_with_len a n) ≡ true
+pub range_all : (t : ℕ → Bool) (a n : ℕ) → ((i : ℕ) → a ≤ i → i < a + n → t i ≡ true) → list_all t (range_with_len a n) ≡ true
 range_all t a zero h = refl
 range_all t a (suc n) h = let e = h a (omega arith) (omega arith) in rw e (range_all t (a + 1) n (λ i low high. h i (omega arith) (omega arith)))
 
@@ -42,10 +42,12 @@ range_all t a (suc n) h = let e = h a (omega arith) (omega arith) in rw e (range
 first_fails : (b c : Bool) → b ≡ false → (b && c) ≡ false
 first_fails b c e = rw e refl
 
-second_fails : (b c : Bool) → c ≡ false → (b && c) ≡ false
+-- or the second
+pub second_fails : (b c : Bool) → c ≡ false → (b && c) ≡ false
 second_fails true c e = e
 second_fails false c e = refl
 
+-- a range fails with one of its numbers
 range_not : (t : ℕ → Bool) (a n i : ℕ) → a ≤ i → i < a + n → t i ≡ false → list_all t (range_with_len a n) ≡ false
 range_not t a zero i low high e = absurd (omega arith)
 range_not t a (suc n) i low high e = elim (here_or_behind a i low) [
@@ -59,6 +61,7 @@ any_has t [] x h e = absurd h
 any_has t (y ∷ xs) x (inl s) e = let p = ap t s ∙ e in rw p refl
 any_has t (y ∷ xs) x (inr h) e = either_true (t y) (list_any t xs) (any_has t xs x h e)
 
+-- none passes where each fails
 none_pass : {A : Type 0} (t : A → Bool) (xs : List A) → AllByRecursion (λ x. t x ≡ false) xs → list_any t xs ≡ false
 none_pass t [] h = refl
 none_pass t (x ∷ xs) h = let p = h.0 in rw p (none_pass t xs h.1)
@@ -77,14 +80,17 @@ reach_true there c j packet r main has low run =
 abbrev pub Fails : (ℕ → Bool) → ℕ → ℕ → ResyncPoint → Type 0
 Fails there j last r = (j < r.precinct) ⊎ ((x : ℕ) × (r.at ≤ x) × (x ≤ last) × (there x ≡ false))
 
+-- so its test fails
 fails_test : (there : ℕ → Bool) (j last : ℕ) (r : ResyncPoint) → Fails there j last r → (nat_le r.precinct j && list_all there (range_with_len r.at (last + 1 - r.at))) ≡ false
 fails_test there j last r (inl high) = first_fails (nat_le r.precinct j) (list_all there (range_with_len r.at (last + 1 - r.at))) (lt-leb r.precinct j high)
 fails_test there j last r (inr (x, low, most, e)) = second_fails (nat_le r.precinct j) (list_all there (range_with_len r.at (last + 1 - r.at))) (range_not there r.at (last + 1 - r.at) x low (omega arith) e)
 
+-- and that of each
 all_fail : (there : ℕ → Bool) (j last : ℕ) (rs : List ResyncPoint) → AllByRecursion (Fails there j last) rs → AllByRecursion (λ r. (nat_le r.precinct j && list_all there (range_with_len r.at (last + 1 - r.at))) ≡ false) rs
 all_fail there j last [] h = tt
 all_fail there j last (r ∷ rs) h = (fails_test there j last r h.0, all_fail there j last rs h.1)
 
+-- so a precinct is not reached
 pub reach_false : (there : ℕ → Bool) (c : Carried) (j : ℕ) (packet : CarriedPacket) → AllByRecursion (Fails there j packet.last) c.resyncs → reaches there c j packet ≡ false
 reach_false there c j packet h =
     second_fails (there c.main) (list_any (λ r. nat_le r.precinct j && list_all there (range_with_len r.at (packet.last + 1 - r.at))) c.resyncs)
@@ -101,10 +107,12 @@ passing-append t k (x ∷ xs) ys =
     let e : k + 1 + length xs ≡ k + suc (length xs) = omega arith in
     chosen (t k) x (passing t (k + 1) (xs ++ ys)) (passing t (k + 1) xs) (passing t (k + suc (length xs)) ys) (passing-append t (k + 1) xs ys ∙ ap (λ n. passing t (k + 1) xs ++ passing t n ys) e)
 
+-- all pass where the test holds of each number
 pub passing_all : (t : ℕ → Bool) (k : ℕ) (xs : List Precinct) → ((j : ℕ) → k ≤ j → j < k + length xs → t j ≡ true) → passing t k xs ≡ xs
 passing_all t k [] h = refl
 passing_all t k (x ∷ xs) h = let e = h k (omega arith) (omega arith) in rw e (ap (λ l. x ∷ l) (passing_all t (k + 1) xs (λ j low high. h j (omega arith) (omega arith))))
 
+-- and none where it fails
 pub passing_none : (t : ℕ → Bool) (k : ℕ) (xs : List Precinct) → ((j : ℕ) → k ≤ j → j < k + length xs → t j ≡ false) → passing t k xs ≡ []
 passing_none t k [] h = refl
 passing_none t k (x ∷ xs) h = let e = h k (omega arith) (omega arith) in rw e (passing_none t (k + 1) xs (λ j low high. h j (omega arith) (omega arith)))
@@ -116,6 +124,7 @@ precincts-append h stamp [] qs (x ∷ xs) ys e = absurd (omega arith)
 precincts-append h stamp (p ∷ ps) qs [] ys e = absurd (omega arith)
 precincts-append h stamp (p ∷ ps) qs (x ∷ xs) ys e = ap (λ l. precinct_of h stamp p x ∷ l) (precincts-append h stamp ps qs xs ys (omega arith))
 
+-- they are as many as the places
 pub precincts-length : (h : Head) (stamp : ℕ) (ps : List Place) (xs : List Content) → length ps ≡ length xs → length (precincts_of h stamp ps xs) ≡ length ps
 precincts-length h stamp [] [] e = refl
 precincts-length h stamp [] (x ∷ xs) e = refl

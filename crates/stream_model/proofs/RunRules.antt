@@ -68,10 +68,12 @@ pub settle_releases : (n : ℕ) (d next : Decoder) (x : Precinct) → rule d d.c
 unfolding settle
 settle_releases n d next x e = rw (e, settle) refl
 
+-- a change of the state goes on
 pub settle_changes : (n : ℕ) (d next : Decoder) → rule d d.current ≡ Changes next → settle (suc n) d ≡ settle n next
 unfolding settle
 settle_changes n d next e = rw (e, settle) refl
 
+-- and waiting ends
 pub settle_waits : (n : ℕ) (d next : Decoder) → rule d d.current ≡ Waits next → settle (suc n) d ≡ record { precincts = []; decoder = next }
 unfolding settle
 settle_waits n d next e = rw (e, settle) refl

@@ -29,6 +29,7 @@ mark_high : (i at : ℕ) (h : PayloadFields) → AllByRecursion (λ m. (at ≤ m
 mark_high i at (Main h) = tt
 mark_high i at (Body h) = elim (either h.ordb) [ inl t ↦ rw t ((omega arith, refl), tt) | inr t ↦ rw t tt ]
 
+-- so with many Bodies
 pub marks_high : (i at : ℕ) (rest : List Datagram) → AllByRecursion (λ m. at ≤ m.place) (marks_from i at rest)
 marks_high i at [] = tt
 marks_high i at (x ∷ rest) =
@@ -36,6 +37,7 @@ marks_high i at (x ∷ rest) =
     (all_imply (λ (m : Mark). (at ≤ m.place) × (m.body ≡ i)) (λ m. at ≤ m.place) (mark_of i at x.payload) (λ m h. h.0) (mark_high i at x.payload))
     (all_imply (λ (m : Mark). at + length x.codestream ≤ m.place) (λ m. at ≤ m.place) (marks_from (i + 1) (at + length x.codestream) rest) (λ m h. omega arith) (marks_high (i + 1) (at + length x.codestream) rest))
 
+-- and have its number
 pub own_body : (i at : ℕ) (h : PayloadFields) → AllByRecursion (λ m. m.body ≡ i) (mark_of i at h)
 own_body i at h = all_imply (λ (m : Mark). (at ≤ m.place) × (m.body ≡ i)) (λ m. m.body ≡ i) (mark_of i at h) (λ m t. t.1) (mark_high i at h)
 
@@ -110,6 +112,7 @@ pub after_own : (c : Parts) (ms later : List Mark) → AllByRecursion (IsResync 
 after_own c [] later h = h
 after_own c (m ∷ ms) later h = after_own c ms later h.1
 
+-- fail by their precincts
 later_fail : (there : ℕ → Bool) (j last main : ℕ) (s : Sent) (codestream : List ℕ) (parts : ArePartsOf s.parts codestream) (from : ℕ) (ms : List Mark) → j < length s.parts.packets → packet_start s.parts (j + 1) ≤ from
     → AllByRecursion (IsResync s.parts) ms → AllByRecursion (λ m. from ≤ m.place) ms → AllByRecursion (λ m. Fails there j last (point main s m)) ms
 later_fail there j last main s codestream parts from [] few high right behind = tt

@@ -6,7 +6,6 @@ use Rattle.std.proofs.lemmas.List.{append-nil, length-append}
 use Rattle.wire_model.specs.Payload.{PayloadFields, BodyFields, Main, Body}
 use Rattle.wire_model.specs.Datagram.{Datagram}
 use Rattle.codestream_model.specs.Values.{Head, Place}
-use Rattle.codestream_model.specs.Bytes.{IsBytes}
 use Rattle.codestream_model.specs.HeadLimits.{HasSamples}
 use Rattle.codestream_model.specs.Areas.{step_of}
 use Rattle.codestream_model.specs.MainHeader.{SpellsHead}
@@ -15,18 +14,17 @@ use Rattle.codestream_model.specs.PacketOrder.{packet_order, IsPacketOrder}
 use Rattle.codestream_model.specs.Packet.{Content}
 use Rattle.codestream_model.specs.Codestream.{joined}
 use Rattle.codestream_model.proofs.TreeLemmas.{either}
-use Rattle.codestream_model.proofs.BytesLemmas.{bytes_front}
 use Rattle.codestream_model.proofs.HeaderReads.{header_is_read_one_way}
-use Rattle.codestream_model.proofs.HeaderLimits.{header_is_within_limits}
+use Rattle.codestream_model.proofs.HeaderLimits.{header_has_components}
+use Rattle.codestream_model.proofs.Orders.{packet_order_is_computed, packet_order_is_one}
 use Rattle.codestream_model.proofs.StripLaws.{each_component_has_precincts}
 use Rattle.stream_model.proofs.Bases.{not_true}
-use Rattle.stream_model.specs.Stream.{Parts, ArePackets, ArePartsOf, Sent, IsMainPayload, Mark, IsResync, bytes_after_sod, Carries}
+use Rattle.stream_model.specs.Stream.{Parts, ArePackets, ArePartsOf, Sent, IsMainPayload, Mark, IsResync, Carries}
 use Rattle.stream_model.specs.Decoder.{Current, Decoder, run_of, found_packet, Settled, settle, settled, take_gap, take_header}
 use Rattle.stream_model.specs.Receiver.{decoded}
 use Rattle.stream_model.specs.CommandLaws.{precincts_of}
 use Rattle.stream_model.specs.RunLaws.{fed, handed, given_before, passing, precincts_in}
 use Rattle.stream_model.proofs.CutStreams.{marks_placed}
-use Rattle.stream_model.proofs.ParsedPackets.{order_is}
 use Rattle.stream_model.proofs.RunRules.{state, IsUnfinished, settle_waits}
 use Rattle.stream_model.proofs.RunPlaces.{Here}
 use Rattle.stream_model.proofs.RunStates.{current_of, test, At}
@@ -126,15 +124,14 @@ pub record IsWhole (s : Sent) : Type 0 where
   pub codestream : List ℕ
   pub parts : ArePartsOf s.parts codestream
   pub carries : Carries s
-  pub bytes : IsBytes codestream
   pub bodies : AllByRecursion (IsBodyOf s) s.bodies
 
 -- it has a precinct
-some_place : (h : Head) (head : List ℕ) (places : List Place) → IsBytes head → SpellsHead h head → IsPacketOrder h places → 1 ≤ length places
-some_place h head places fits is order =
-    let limits = header_is_within_limits h head fits is in
-    let some : 0 < length h.steps = omega (arith, limits.some_component) in
-    let samples : HasSamples h (step_of h 0) = limits.each_component 0 (record { x = 1; y = 1 }) some in
+some_place : (h : Head) (head : List ℕ) (places : List Place) → SpellsHead h head → IsPacketOrder h places → 1 ≤ length places
+some_place h head places is order =
+    let c = header_has_components h head is in
+    let some : 0 < length h.steps = omega (arith, c.some) in
+    let samples : HasSamples h (step_of h 0) = c.samples 0 (record { x = 1; y = 1 }) some in
     let p : Place = record { c = 0; r = h.levels; k = 0 } in
     let there = (order.each p).1 (record { component = some; resolution = omega arith; number = each_component_has_precincts h 0 samples }) in
     omega (arith, there.1)
@@ -161,15 +158,14 @@ main_by d s (Body h) is = absurd is
 main_taken : (d : Decoder) (s : Sent) (w : IsWhole s) → settled (decoded d s.main s.main.payload) ≡ record { precincts = []; decoder = state d (current_of s) (run_of s.parts.places) [] None }
 main_taken d s w =
     let c = s.parts in
-    let fits : IsBytes c.header = (let P : List ℕ → Type 0 = λ l. IsBytes l in bytes_front c.header (bytes_after_sod c) (subst P w.parts.whole w.bytes)) in
-    let order : packet_order c.head ≡ c.places = order_is c.head c.header c.places w.parts.is_head fits w.parts.order in
+    let order : packet_order c.head ≡ c.places = packet_order_is_one c.head (packet_order c.head) c.places (packet_order_is_computed c.head (header_has_components c.head c.header w.parts.is_head).steps) w.parts.order in
     let read : head_of s.main.codestream ≡ Ok c.head = ap head_of (w.carries.header ∙ sym (append-nil c.header)) ∙ header_is_read_one_way c.head c.header [] w.parts.is_head in
     let size : c.head.length ≡ length s.main.codestream = ap (λ (h : Head). h.length) w.parts.is_head.values ∙ sym (ap length w.carries.header) in
     let same : (c.head.length == length s.main.codestream) ≡ true = eq-eqb c.head.length (length s.main.codestream) size in
     let stamp : s.main.rtp.stamp ≡ s.stamp = w.carries.stamps.0 in
     let taken : decoded d s.main s.main.payload ≡ state d (current_of s) (Some c.places) [] None =
     main_by d s s.main.payload w.carries.main ∙ (ap (take_header d s.main.rtp.stamp (length s.main.codestream)) read ∙ rw (same, order, stamp) refl) in
-    ap settled taken ∙ first_waits 4 d (current_of s) c.places (some_place c.head c.header c.places fits w.parts.is_head w.parts.order)
+    ap settled taken ∙ first_waits 4 d (current_of s) c.places (some_place c.head c.header c.places w.parts.is_head w.parts.order)
 
 -- what is known before the first Body
 first_at : (d : Decoder) (s : Sent) (main : ℕ) (there : ℕ → Bool) (w : IsWhole s) → there main ≡ true → (a : At d s main there 0 0 s.bodies s.parts.places s.parts.content s.parts.packets [] (state d (current_of s) (run_of s.parts.places) [] None)) × (length a.here.done ≡ 0)

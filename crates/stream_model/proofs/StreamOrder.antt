@@ -26,7 +26,7 @@ count_grows p q (x ∷ xs) h =
     omega (arith, one, sum_by-cons (λ y. cond (p y) 1 0) x xs, sum_by-cons (λ y. cond (q y) 1 0) x xs)
 
 -- a later byte stands in no earlier Body
-body_with_rises : (bodies : List Datagram) (x y : ℕ) → x ≤ y → body_with bodies x ≤ body_with bodies y
+pub body_with_rises : (bodies : List Datagram) (x y : ℕ) → x ≤ y → body_with bodies x ≤ body_with bodies y
 body_with_rises bodies x y h =
     count_grows (λ j. nat_le (payload_start bodies (j + 1)) x) (λ j. nat_le (payload_start bodies (j + 1)) y) (range_with_len 0 (length bodies))
     (λ j t. (let low : payload_start bodies (j + 1) ≤ x = leb-true (payload_start bodies (j + 1)) x t in le-leb (payload_start bodies (j + 1)) y (omega arith)))

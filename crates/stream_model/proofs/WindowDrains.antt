@@ -19,6 +19,7 @@ abbrev pub items : (ℕ → Bool) → (ℕ → Datagram) → ℕ → ℕ → Lis
 items there dg p zero = []
 items there dg p (suc n) = (if there p then Some (dg p) else None) ∷ items there dg (p + 1) n
 
+-- in two parts
 pub items-append : (there : ℕ → Bool) (dg : ℕ → Datagram) (p m n : ℕ) → items there dg p (m + n) ≡ items there dg p m ++ items there dg (p + m) n
 items-append there dg p zero n = let e : zero + n ≡ n = omega arith in let f : p ≡ p + 0 = omega arith in ap (items there dg p) e ∙ ap (λ k. items there dg k n) f
 items-append there dg p (suc m) n =
@@ -26,6 +27,7 @@ items-append there dg p (suc m) n =
     let f : p + 1 + m ≡ p + suc m = omega arith in
     ap (items there dg p) e ∙ ap (λ l. (if there p then Some (dg p) else None) ∷ l) (items-append there dg (p + 1) m n ∙ ap (λ k. items there dg (p + 1) m ++ items there dg k n) f)
 
+-- by tests that agree
 pub items_same : (t u : ℕ → Bool) (dg : ℕ → Datagram) (p n : ℕ) → ((i : ℕ) → p ≤ i → i < p + n → t i ≡ u i) → items t dg p n ≡ items u dg p n
 items_same t u dg p zero h = refl
 items_same t u dg p (suc n) h =
@@ -45,11 +47,13 @@ one_gap d there dg p (suc (suc n)) rest h some =
 abbrev pub fed_on : Receiver → List (Option Datagram) → Receiver
 fed_on r xs = record r { decoder = (fed r.decoder xs).decoder; precincts = r.precincts ++ (fed r.decoder xs).precincts }
 
+-- in two parts
 pub fed_on-append : (r : Receiver) (xs ys : List (Option Datagram)) → fed_on r (xs ++ ys) ≡ fed_on (fed_on r xs) ys
 fed_on-append r xs ys =
     ap (λ s. record r { decoder = s.decoder; precincts = r.precincts ++ s.precincts }) (fed-append r.decoder xs ys)
     ∙ ap (λ l. record r { decoder = (fed (fed r.decoder xs).decoder ys).decoder; precincts = l }) (sym (append_assoc r.precincts (fed r.decoder xs).precincts (fed (fed r.decoder xs).decoder ys).precincts))
 
+-- a datagram is decoded first
 pub fed_on_hand : (r : Receiver) (x : Datagram) (xs : List (Option Datagram)) → fed_on r (Some x ∷ xs) ≡ fed_on (followed r (decoded r.decoder x x.payload)) xs
 fed_on_hand r x xs =
     let s = settled (decoded r.decoder x x.payload) in
@@ -60,10 +64,12 @@ drained_hand : (m : ℕ) (r : Receiver) (x : Datagram) (w : Window) → next r.w
 unfolding drained
 drained_hand m r x w e = rw (e, drained) refl
 
+-- a gap drops the run
 drained_gap : (m : ℕ) (r : Receiver) (w : Window) → next r.window r.window.base ≡ Gap w → drained (suc m) r ≡ drained m (record r { window = w; decoder = take_gap r.decoder })
 unfolding drained
 drained_gap m r w e = rw (e, drained) refl
 
+-- and with nothing left it ends
 drained_none : (m : ℕ) (r : Receiver) → next r.window r.window.base ≡ Nothing → drained m r ≡ r
 unfolding drained
 drained_none zero r e = refl

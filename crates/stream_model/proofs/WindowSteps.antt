@@ -29,6 +29,7 @@ window_at number dg p u hs = record { base = Some (num number p); due = u; held 
 pub apart : (number i j : ℕ) → i < 8388608 → j < 8388608 → num number i ≡ num number j → i ≡ j
 apart number i j a b e = let f : (number + i) % 16777216 ≡ (number + j) % 16777216 = e in omega arith
 
+-- so their tests agree
 pub num_test : (number i p : ℕ) → i < 8388608 → p < 8388608 → (num number i == num number p) ≡ (i == p)
 num_test number i p a b = elim (eqb_tells i p) [
   | inl t ↦ let e : (num number i == num number p) ≡ true = eq-eqb (num number i) (num number p) (ap (num number) t.1) in e ∙ sym t.0
@@ -48,10 +49,12 @@ chosen : (number : ℕ) (dg : ℕ → Datagram) (i p : ℕ) (more : Option Held)
 chosen number dg i p more true c e f = let s : i ≡ p = equal_number i p e in rw (f, s) refl
 chosen number dg i p more false c e f = rw f refl
 
+-- one of two finds it
 either_none : (number : ℕ) (dg : ℕ → Datagram) (p : ℕ) (b c : Bool) → (if b then Some (held_at number dg p) else (if c then Some (held_at number dg p) else None)) ≡ (if (b || c) then Some (held_at number dg p) else None)
 either_none number dg p true c = refl
 either_none number dg p false c = refl
 
+-- is found by its number
 find_held : (number : ℕ) (dg : ℕ → Datagram) (p : ℕ) (hs : List ℕ) → p < 8388608 → AllByRecursion (λ i. i < 8388608) hs → find (λ h. h.number == num number p) (map (held_at number dg) hs) ≡ (if mem hs p then Some (held_at number dg p) else None)
 find_held number dg p [] low small = refl
 find_held number dg p (i ∷ hs) low small =
@@ -63,12 +66,14 @@ find_held number dg p (i ∷ hs) low small =
 abbrev pub others : ℕ → List ℕ → List ℕ
 others p hs = filter (λ i. not (i == p)) hs
 
+-- each stays or goes by its number
 left_by : (number : ℕ) (dg : ℕ → Datagram) (i : ℕ) (hs : List ℕ) (held : List Held) (b c : Bool) → b ≡ c → held ≡ map (held_at number dg) hs → (if not b then held_at number dg i ∷ held else held) ≡ map (held_at number dg) (if not c then i ∷ hs else hs)
 left_by number dg i hs held true true e f = f
 left_by number dg i hs held false false e f = ap (λ l. held_at number dg i ∷ l) f
 left_by number dg i hs held true false e f = absurd (cc)
 left_by number dg i hs held false true e f = absurd (cc)
 
+-- so all others stay
 left_held : (number : ℕ) (dg : ℕ → Datagram) (p : ℕ) (hs : List ℕ) → p < 8388608 → AllByRecursion (λ i. i < 8388608) hs → filter (λ h. not (h.number == num number p)) (map (held_at number dg) hs) ≡ map (held_at number dg) (others p hs)
 left_held number dg p [] low small = refl
 left_held number dg p (i ∷ hs) low small =
@@ -82,6 +87,7 @@ mem_other_by i j xs rest true e h = elim (either (i == j)) [
   | inr t ↦ e ∙ rw t refl
 ]
 
+-- the others are still among them
 pub mem_others : (p j : ℕ) (hs : List ℕ) → (j ≡ p → ⊥) → mem (others p hs) j ≡ mem hs j
 mem_others p j [] n = refl
 mem_others p j (i ∷ hs) n =
@@ -93,14 +99,17 @@ few_by : (i : ℕ) (xs hs : List ℕ) (b : Bool) → length xs ≤ length hs →
 few_by i xs hs true h = omega arith
 few_by i xs hs false h = omega arith
 
+-- are no more
 pub few_others : (p : ℕ) (hs : List ℕ) → length (others p hs) ≤ length hs
 few_others p [] = omega arith
 few_others p (i ∷ hs) = few_by i (others p hs) hs (i == p) (few_others p hs)
 
+-- by the first of them
 fewer_by : (p i : ℕ) (hs : List ℕ) (b c : Bool) → (i == p) ≡ b → (c ≡ true → length (others p hs) + 1 ≤ length hs) → (b || c) ≡ true → length (if not b then i ∷ others p hs else others p hs) + 1 ≤ suc (length hs)
 fewer_by p i hs true c e h t = let f = few_others p hs in omega (arith, f)
 fewer_by p i hs false c e h t = let f = h t in omega (arith, f)
 
+-- and fewer where the one was there
 pub fewer_others : (p : ℕ) (hs : List ℕ) → mem hs p ≡ true → length (others p hs) + 1 ≤ length hs
 fewer_others p [] t = absurd (cc)
 fewer_others p (i ∷ hs) t = fewer_by p i hs (i == p) (mem hs p) refl (fewer_others p hs) t
@@ -135,15 +144,18 @@ or_second false = refl
 abbrev pub gap_of : ℕ → ℕ → List ℕ → ℕ
 gap_of p u hs = fold min u (map (λ i. i - p) hs)
 
+-- by the numbers that are held
 gaps_are : (number : ℕ) (dg : ℕ → Datagram) (p u : ℕ) (hs : List ℕ) → AllByRecursion (λ i. i < 8388608) hs → AllByRecursion (λ i. p ≤ i) hs → fold min u (map (λ h. ahead (num number p) h.number) (map (held_at number dg) hs)) ≡ gap_of p u hs
 gaps_are number dg p u [] small high = refl
 gaps_are number dg p u (i ∷ hs) small high =
     ap (λ a. fold min (min u a) (map (λ h. ahead (num number p) h.number) (map (held_at number dg) hs))) (ahead_is number p i high.0 small.0) ∙ gaps_are number dg p (min u (i - p)) hs small.1 high.1
 
+-- it is no longer than what is due
 pub gap_most : (p u : ℕ) (hs : List ℕ) → gap_of p u hs ≤ u
 gap_most p u [] = omega arith
 gap_most p u (i ∷ hs) = let h = gap_most p (min u (i - p)) hs in omega (arith, h)
 
+-- nothing in it is held
 pub gap_free : (p u : ℕ) (hs : List ℕ) (j : ℕ) → AllByRecursion (λ i. p ≤ i) hs → p ≤ j → j < p + gap_of p u hs → mem hs j ≡ false
 gap_free p u [] j high low less = refl
 gap_free p u (i ∷ hs) j high low less =
@@ -151,6 +163,7 @@ gap_free p u (i ∷ hs) j high low less =
     let n : (i == j) ≡ false = elim (eqb_tells i j) [ inr t ↦ t.0 | inl t ↦ absurd (omega (arith, t.1, m, high.0)) ] in
     rw n (gap_free p (min u (i - p)) hs j high.1 low less)
 
+-- and it is not empty
 pub gap_some : (p u : ℕ) (hs : List ℕ) → 1 ≤ u → AllByRecursion (λ i. p ≤ i) hs → mem hs p ≡ false → 1 ≤ gap_of p u hs
 gap_some p u [] some high none = some
 gap_some p u (i ∷ hs) some high none = elim (eqb_tells i p) [

@@ -1,9 +1,14 @@
 -- What is promised of the datagrams that the bytes of an input already fix.
 use Rattle.std.specs.Prelude.{◌≡◌, ◌<◌, ◌≤◌, ◌^◌, ◌++◌, ℕ, List, map, length}
 use Rattle.std.specs.List.{AllByRecursion, AllZip, flat_map}
+use Rattle.codestream_model.specs.Bytes.{IsBytes}
 use Rattle.codestream_model.specs.Codestream.{joined}
 use Rattle.stream_model.specs.Stream.{Parts, ArePartsOf, datagrams_of}
 use Rattle.stream_model.specs.Cut.{Plan, room, sent_by, datagram_bytes, Closed}
+
+-- all bytes fix some datagrams, or none
+abbrev pub BytesFixDatagrams : Type 0
+BytesFixDatagrams = (p : Plan) (bytes : List ℕ) → IsBytes bytes → (closed : List (List ℕ)) × Closed p bytes closed
 
 -- what is fixed stays fixed: more bytes only add datagrams behind; so bytes fix one list of datagrams
 abbrev pub ClosedGrows : Type 0

@@ -1,7 +1,6 @@
 -- What the decoder's rules make of the datagrams of a stream that are handed on to them in order, where some are missing.
 use Rattle.std.specs.Prelude.{◌≡◌, ◌+◌, ◌-◌, ◌&&◌, ◌++◌, ℕ, Bool, List, [], ◌∷◌, nat_le, Option, Some, None, if◌then◌else◌}
-use Rattle.std.specs.List.{AllByRecursion, list_any, list_all, flat_map, range_with_len, enumerate_from}
-use Rattle.codestream_model.specs.Bytes.{IsBytes}
+use Rattle.std.specs.List.{list_any, list_all, flat_map, range_with_len, enumerate_from}
 use Rattle.wire_model.specs.Datagram.{Datagram}
 use Rattle.stream_model.specs.Report.{Precinct}
 use Rattle.stream_model.specs.Decoder.{Decoder, at_start, Settled, settled, take_gap}
@@ -56,6 +55,6 @@ pub record HasNoComplaint (d : Decoder) : Type 0 where
 -- whichever datagrams of a stream are there.
 abbrev pub RunsGiveWhatIsReached : Type 0
 RunsGiveWhatIsReached =
-    (sent : List Sent) (codestreams datagrams : List (List ℕ)) (there : ℕ → Bool) → Carry sent codestreams datagrams → AllByRecursion IsBytes codestreams
+    (sent : List Sent) (codestreams datagrams : List (List ℕ)) (there : ℕ → Bool) → Carry sent codestreams datagrams
     → ((fed at_start (handed there 0 (flat_map datagrams_of sent))).precincts ≡ reached_in there sent)
     × HasNoComplaint (fed at_start (handed there 0 (flat_map datagrams_of sent))).decoder

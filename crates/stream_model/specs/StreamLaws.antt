@@ -1,23 +1,51 @@
 -- What is promised of a receiver's rules where the frames are datagrams of a stream.
-use Rattle.std.specs.Prelude.{◌≡◌, ◌≤◌, ◌⊎◌, ◌+◌, ◌%◌, ◌^◌, ◌&&◌, List, ℕ, length, nat_lt, Some, None}
+use Rattle.std.specs.Prelude.{◌≡◌, ◌≤◌, ◌⊎◌, ◌+◌, ◌%◌, ◌^◌, ◌==◌, ◌&&◌, List, [], ◌∷◌, ℕ, length, take, nat_lt, Option, Some, None, if◌then◌else◌}
 use Rattle.std.specs.List.{AllByRecursion, flat_map}
-use Rattle.codestream_model.specs.Bytes.{IsBytes}
-use Rattle.stream_model.specs.Stream.{Sent, Carry}
-use Rattle.stream_model.specs.Receiver.{Pick, received, flushed, counts_of}
-use Rattle.stream_model.specs.Arrivals.{picked, Arrive, in_time, base}
+use Rattle.stream_model.specs.Stream.{Sent, Carry, carried, datagrams_of}
+use Rattle.stream_model.specs.Reached.{StreamPrecinct, due, due_at_end}
+use Rattle.wire_model.specs.Datagram.{Datagram}
+use Rattle.stream_model.specs.Report.{Precinct}
+use Rattle.stream_model.specs.Decoder.{at_start}
+use Rattle.stream_model.specs.Laws.{all_precincts}
+use Rattle.stream_model.specs.Receiver.{Pick, Receiver, received, flushed, counts_of}
+use Rattle.stream_model.specs.Arrivals.{picked, Arrive, highest_arrival, in_time, base}
 use Rattle.stream_model.specs.EndCounts.{end_counts}
-use Rattle.stream_model.specs.RunLaws.{precincts_in, reached_in}
+use Rattle.stream_model.specs.RunLaws.{fed, handed, passing, precincts_in, reached_in}
 
 -- Where the frames are the datagrams of a stream in order, each once, and are picked, the rules give every precinct of its
 -- codestreams, each once, in order and with its content, before the end and at the end, whatever the window; all frames are
 -- kept, and nothing else is counted.
 abbrev pub InOrderGivesAll : Type 0
 InOrderGivesAll =
-    (sent : List Sent) (codestreams datagrams : List (List ℕ)) (pick : Pick) → (c : Carry sent codestreams datagrams) → AllByRecursion IsBytes codestreams
+    (sent : List Sent) (codestreams datagrams : List (List ℕ)) (pick : Pick) → (c : Carry sent codestreams datagrams)
     → 1 ≤ pick.window → pick.kind ≡ c.kind → (pick.source ≡ None) ⊎ (pick.source ≡ Some c.source)
     → ((received pick datagrams).precincts ≡ flat_map precincts_in sent)
     × ((flushed (received pick datagrams)).precincts ≡ flat_map precincts_in sent)
     × (counts_of (flushed (received pick datagrams)) ≡ record { kept = length datagrams; old = 0; refused = 0; unsupported = 0; disagreed = 0; broken = 0 })
+
+-- what a precinct of a stream says: it is that of its number in the codestream that has its stamp
+abbrev pub said_by : List Sent → StreamPrecinct → List Precinct
+said_by sent x = flat_map (λ s. if s.stamp == x.stamp then passing (λ k. k == x.precinct) 0 (precincts_in s) else []) sent
+
+-- each precinct of a stream says one thing
+abbrev pub EachPrecinctIsSaid : Type 0
+EachPrecinctIsSaid =
+    (sent : List Sent) (codestreams datagrams : List (List ℕ)) → Carry sent codestreams datagrams
+    → AllByRecursion (λ x. (p : Precinct) × (said_by sent x ≡ p ∷ []) × (p.stamp ≡ x.stamp)) (all_precincts (carried sent))
+
+-- a receiver has fed its decoder these items, from the start on, and has given the precincts of that
+pub record HasFed (items : List (Option Datagram)) (r : Receiver) : Type 0 where
+  pub precincts : r.precincts ≡ (fed at_start items).precincts
+  pub decoder : r.decoder ≡ (fed at_start items).decoder
+
+-- The window hands on each position of a stream below the base once and in order, its datagram where it is in time and else a gap;
+-- and at the end each position up to the highest arrival.
+abbrev pub HandsOnInOrder : Type 0
+HandsOnInOrder =
+    (sent : List Sent) (codestreams datagrams frames : List (List ℕ)) (events : List ℕ) (pick : Pick) → Carry sent codestreams datagrams
+    → 1 ≤ pick.window → Arrive datagrams (picked pick.kind pick.source frames) events → 1 ≤ length events
+    → HasFed (handed (λ i. in_time events i pick.window) 0 (take (base events pick.window) (flat_map datagrams_of sent))) (received pick frames)
+    × HasFed (handed (λ i. in_time events i pick.window) 0 (take (highest_arrival events + 1) (flat_map datagrams_of sent))) (flushed (received pick frames))
 
 -- Whatever datagrams of a stream are lost, thinned away, repeated or reordered, and whatever other frames stand between them: before
 -- the end the rules have given the precincts that are reached by what is in time and below the base, and at the end those that are
@@ -25,7 +53,7 @@ InOrderGivesAll =
 -- the arrivals.
 abbrev pub GivesWhatIsReached : Type 0
 GivesWhatIsReached =
-    (sent : List Sent) (codestreams datagrams frames : List (List ℕ)) (events : List ℕ) (pick : Pick) → Carry sent codestreams datagrams → AllByRecursion IsBytes codestreams
+    (sent : List Sent) (codestreams datagrams frames : List (List ℕ)) (events : List ℕ) (pick : Pick) → Carry sent codestreams datagrams
     → 1 ≤ pick.window → Arrive datagrams (picked pick.kind pick.source frames) events
     → ((received pick frames).precincts ≡ reached_in (λ i. in_time events i pick.window && nat_lt i (base events pick.window)) sent)
     × ((flushed (received pick frames)).precincts ≡ reached_in (λ i. in_time events i pick.window) sent)
@@ -37,3 +65,13 @@ WindowIsAtBase =
     (sent : List Sent) (codestreams datagrams frames : List (List ℕ)) (events : List ℕ) (pick : Pick) → (c : Carry sent codestreams datagrams)
     → 1 ≤ pick.window → Arrive datagrams (picked pick.kind pick.source frames) events → 1 ≤ length events
     → ((received pick frames).window.base ≡ Some ((c.number + base events pick.window) % 2 ^ 24)) × ((received pick frames).window.due ≡ 0)
+
+-- The same in the words of `due`: before the end the rules have given what is due, and at the end what is due at the end, each
+-- precinct with its content.
+abbrev pub GivesWhatIsDue : Type 0
+GivesWhatIsDue =
+    (sent : List Sent) (codestreams datagrams frames : List (List ℕ)) (events : List ℕ) (pick : Pick) → Carry sent codestreams datagrams
+    → 1 ≤ pick.window → Arrive datagrams (picked pick.kind pick.source frames) events
+    → ((received pick frames).precincts ≡ flat_map (said_by sent) (due events pick.window (carried sent)))
+    × ((flushed (received pick frames)).precincts ≡ flat_map (said_by sent) (due_at_end events pick.window (carried sent)))
+    × (counts_of (flushed (received pick frames)) ≡ end_counts frames events pick.window)

@@ -15,7 +15,7 @@ pub use command_laws::{
     parse_writes_inputs, parse_writes_up_to_fault, parse_writes_whole_packets,
     reads_have_whole_packets,
 };
-pub use cut_laws::{closed_grows, closed_is_cut, closed_is_front_of_cut};
+pub use cut_laws::{bytes_fix_datagrams, closed_grows, closed_is_cut, closed_is_front_of_cut};
 pub use laws::{
     base_is_least, base_never_falls, below_base_is_decided, body_has_byte, chunks_are_full,
     closed_stays, cut_is_stream, due_grows, events_are_one, in_time_is_computed, in_time_is_listed,
@@ -28,5 +28,6 @@ pub use receiver_laws::{
     each_frame_is_counted_once, found_is_what_stands, malformed_frames_are_counted_alone,
 };
 pub use run_laws::{
-    gives_what_is_reached, in_order_gives_all, runs_give_what_is_reached, window_is_at_base,
+    each_precinct_is_said, gives_what_is_due, gives_what_is_reached, hands_on_in_order,
+    in_order_gives_all, runs_give_what_is_reached, window_is_at_base,
 };

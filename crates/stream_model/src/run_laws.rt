@@ -1,7 +1,7 @@
 //! The laws of what a receiver gives of a stream, each on a function that does nothing.
 
 ghost use Rattle.stream_model.specs.RunLaws.{RunsGiveWhatIsReached};
-ghost use Rattle.stream_model.specs.StreamLaws.{InOrderGivesAll, GivesWhatIsReached, WindowIsAtBase};
+ghost use Rattle.stream_model.specs.StreamLaws.{InOrderGivesAll, HandsOnInOrder, GivesWhatIsReached, WindowIsAtBase, EachPrecinctIsSaid, GivesWhatIsDue};
 
 /// Whichever datagrams of a stream are there, the rules give exactly the precincts that are reached, in order and with their content.
 pub fn runs_give_what_is_reached()
@@ -21,4 +21,19 @@ pub fn gives_what_is_reached()
 /// The window's next number is that of the base, and nothing is due, after each arrival.
 pub fn window_is_at_base()
     ensures { WindowIsAtBase }
+{}
+
+/// Each precinct of a stream says one thing.
+pub fn each_precinct_is_said()
+    ensures { EachPrecinctIsSaid }
+{}
+
+/// Whatever arrives of a stream, the rules give what is due, and at the end what is due at the end.
+pub fn gives_what_is_due()
+    ensures { GivesWhatIsDue }
+{}
+
+/// The window hands on each position below the base once and in order, its datagram where it is in time and else a gap.
+pub fn hands_on_in_order()
+    ensures { HandsOnInOrder }
 {}
