@@ -1,5 +1,5 @@
 -- What a tree knows: nothing at first, and one node more behind each that is met.
-use Rattle.std.proofs.Common.{◌≡◌, ◌≢◌, ◌<◌, ◌≤◌, ◌⊎◌, ◌/◌, ◌^◌, ℕ, zero, suc, true, false, List, [], ◌∷◌, length, replicate, slice_index, slice_index_or, slice_set, Some, refl, sym, ◌∙◌, ap, subst, inl, inr, arith}
+use Rattle.std.proofs.Common.{◌≡◌, ◌≢◌, ◌<◌, ◌≤◌, ◌⊎◌, ◌/◌, ◌^◌, ◌++◌, ℕ, zero, suc, Bool, true, false, List, [], ◌∷◌, length, take, replicate, slice_index, slice_index_or, slice_set, Some, refl, sym, ◌∙◌, ap, subst, inl, inr, arith}
 use Rattle.std.proofs.lemmas.Bool.Decides.{eqb_tells}
 use Rattle.std.proofs.lemmas.Grind.{get_or-set_at}
 use Rattle.codestream_model.specs.TagTrees.{Seat, shares}
@@ -10,18 +10,18 @@ use Rattle.tag_tree.specs.Grove.{Grove}
 use Rattle.tag_tree.specs.LeafReading.{told_at, met_at, Knows}
 use Rattle.tag_tree.proofs.PlaceLemmas.{levels_apart, same_node}
 
--- items that are all one
-all_one : {A : Type 0} (n i : ℕ) (x : A) → slice_index_or (replicate n x) i x ≡ x
-all_one zero i x = refl
-all_one (suc n) zero x = refl
-all_one (suc n) (suc i) x = all_one n i x
+-- a list whose first items were cleared is clear there
+pub cleared : (n len place : ℕ) (rest : List Bool) → place < n → slice_index_or (take len (replicate n false ++ rest)) place false ≡ false
+cleared zero len place rest h = absurd (omega (arith, h))
+cleared (suc n) zero place rest h = refl
+cleared (suc n) (suc len) zero rest h = refl
+cleared (suc n) (suc len) (suc place) rest h = cleared n len place rest (omega (arith, h))
 
--- a list that was cleared tells nothing
-pub knows_nothing : (t : Grove) (n m : ℕ) → t.labels ≡ replicate n 0 → t.met ≡ replicate m false → Knows t []
+-- a tree of whose nodes none was met tells nothing
+pub knows_nothing : (t : Grove) → ((level : ℕ) (s : Seat) → s.col < t.cols → s.row < t.rows → level ≤ t.root → slice_index_or t.met (place_of t.cols t.rows level s.col s.row) false ≡ false) → Knows t []
 unfolding known_label
-knows_nothing t n m labels met = record {
-  told = λ level s h u low. let e : slice_index_or t.met (place_of t.cols t.rows level s.col s.row) false ≡ false = rw met (all_one m (place_of t.cols t.rows level s.col s.row) false) in rw e refl;
-  unmet = λ place e. rw labels (all_one n place 0);
+knows_nothing t unmet = record {
+  told = λ level s h u low. let e = unmet level s h u low in rw e refl;
 }
 
 -- an item that is set leaves the others
@@ -104,8 +104,4 @@ knows_more t nodes level v s sc sr a b k =
     let p = place_of t.cols t.rows level s.col s.row in
     record {
       told = λ l u uc ur low. told_after t nodes level l v s u sc sr uc ur low a b k;
-      unmet = λ place e. elim (eqb_tells p place) [
-        | inl d ↦ let m : slice_index_or (slice_set t.met p true) place false ≡ true = get_or-set_at t.met p place true false (sym d.1) b in let z : true ≡ false = sym m ∙ e in absurd (cc)
-        | inr d ↦ set_other t.labels p place v 0 d.1 ∙ k.unmet place (sym (set_other t.met p place true false d.1) ∙ e)
-      ];
     }

@@ -22,7 +22,6 @@ met_at t place v = record t { labels = slice_set t.labels place v; met = slice_s
 -- a tree knows the labels of these nodes, and no others
 pub record Knows (t : Grove) (nodes : List Node) : Type 0 where
   pub told : (level : ℕ) (s : Seat) → s.col < t.cols → s.row < t.rows → level ≤ t.root → known_label level s nodes ≡ told_at t (place_of t.cols t.rows level s.col s.row)
-  pub unmet : (place : ℕ) → slice_index_or t.met place false ≡ false → slice_index t.labels place ≡ 0
 
 -- a tree keeps its room and its shape
 pub record IsSameShape (before after : Grove) : Type 0 where

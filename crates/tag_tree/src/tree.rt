@@ -1,5 +1,5 @@
 //! The tree: its labels, and which of its nodes were met.
-ghost use Rattle.std.specs.Prelude.{◌≡◌, ◌≢◌, ◌<◌, ◌≤◌, ◌*◌, [], ◌∷◌, length, IfOk, if◌then◌else◌};
+ghost use Rattle.std.specs.Prelude.{◌≡◌, ◌≢◌, ◌<◌, ◌≤◌, ◌*◌, ◌++◌, [], ◌∷◌, false, length, replicate, drop, IfOk, if◌then◌else◌};
 ghost use Rattle.codestream_model.specs.TagTrees.{levels_from, root_level};
 ghost use Rattle.codestream_model.specs.PacketHeaderReading.{read_label, read_inclusion, read_planes};
 ghost use Rattle.tag_tree.specs.Places.{place_of};
@@ -53,6 +53,14 @@ fn inclusion_label(included: bool) -> u8
     if included { 0 } else { 1 }
 }
 
+/// Makes the first nodes ones that weren't met.
+fn clear(met: &mut [bool], nodes: usize)
+    requires { nodes ≤ length met.old }
+    ensures { met.new ≡ replicate nodes false ++ drop nodes met.old }
+{
+    met[..nodes].fill(false);
+}
+
 /// A tag tree over a grid of leaves.
 #[derive(Drop)]
 pub struct Tree {
@@ -64,7 +72,7 @@ pub struct Tree {
     pub(crate) root: u32,
     /// The places of the first nodes of each level.
     bases: [usize; LEVELS],
-    /// The labels of the nodes; without a `fill`, 0 where a node wasn't met.
+    /// The labels of the nodes; without a `fill`, of those that were met.
     pub(crate) labels: Vec<u8>,
     /// Whether a node was met.
     pub(crate) met: Vec<bool>,
@@ -121,8 +129,8 @@ impl Tree {
             exponent_of(cols.max(rows))
         };
         self.bases = bases(cols, rows);
-        self.labels.fill(0);
-        self.met.fill(false);
+        let nodes = most_nodes(cols * rows);
+        clear(&mut self.met, nodes);
     }
 
     /// Where the node of a level on a leaf's path stands.
