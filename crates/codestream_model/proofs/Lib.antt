@@ -61,3 +61,4 @@ pub mod CodestreamVerdicts
 pub mod CodestreamsJudged
 pub mod Inputs
 pub mod WorkedFaults
+pub mod Stays

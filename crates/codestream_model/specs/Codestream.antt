@@ -1,7 +1,7 @@
 -- A codestream of the profile, and the first fault of an input of codestreams (T.800 Annexes A and B).
 use Rattle.std.specs.Prelude.{◌≡◌, ◌≢◌, ◌<◌, ◌≤◌, ◌⊎◌, ◌+◌, ◌-◌, ◌^◌, ◌++◌, ℕ, List, [], ◌∷◌, length, take}
 use Rattle.std.specs.List.{AllByRecursion, flat_map}
-use Rattle.codestream_model.specs.Values.{Head, Place}
+use Rattle.codestream_model.specs.Values.{Head, Place, Grid}
 use Rattle.codestream_model.specs.HeadRefusals.{HeadRefusal, Cut as HeadCut}
 use Rattle.codestream_model.specs.MainHeader.{SpellsHead}
 use Rattle.codestream_model.specs.RefusedHeader.{RefusesHead}
@@ -66,6 +66,51 @@ pub record BeginsCodestream (h : Head) (later : List Place) (at : ℕ) (rest byt
   pub place : at ≡ length head + length packets
   pub whole : bytes ≡ head ++ (packets ++ rest)
 
+-- Bytes that should begin with a packet over these grids are refused: for the number of its code-blocks, for its header, or for
+-- its length. The other reasons are not about packets.
+abbrev pub RefusesPacket : List Grid → List ℕ → WalkRefusal → Type 0
+RefusesPacket gs bytes TooManyBlocks = 65536 < block_count gs
+RefusesPacket gs bytes (HeaderRefused why) = HasFewBlocks gs × RefusesHeader gs bytes why
+RefusesPacket gs bytes PacketTooLong = IsPacketTooLong gs bytes
+RefusesPacket gs bytes (HeadRefused why) = ⊥
+RefusesPacket gs bytes Cut = ⊥
+RefusesPacket gs bytes Psot = ⊥
+RefusesPacket gs bytes NoEoc = ⊥
+RefusesPacket gs bytes InputTooLong = ⊥
+RefusesPacket gs bytes TooManyFrames = ⊥
+
+-- The bytes begin with two bytes other than those of EOC.
+abbrev pub IsOther : List ℕ → Type 0
+IsOther bytes = (a : ℕ) × (b : ℕ) × (more : List ℕ) × (bytes ≡ a ∷ b ∷ more) × ((a ≡ 255) × (b ≡ 217) → ⊥)
+
+-- Bytes that should begin with EOC, `at` bytes into the codestream, are refused: Psot names another place, or these two bytes are
+-- no EOC. The other reasons are not about EOC.
+abbrev pub RefusesEoc : Head → ℕ → List ℕ → WalkRefusal → Type 0
+RefusesEoc h at bytes Psot = IsPsotRight h at → ⊥
+RefusesEoc h at bytes NoEoc = IsPsotRight h at × IsOther bytes
+RefusesEoc h at bytes (HeadRefused why) = ⊥
+RefusesEoc h at bytes Cut = ⊥
+RefusesEoc h at bytes TooManyBlocks = ⊥
+RefusesEoc h at bytes (HeaderRefused why) = ⊥
+RefusesEoc h at bytes PacketTooLong = ⊥
+RefusesEoc h at bytes InputTooLong = ⊥
+RefusesEoc h at bytes TooManyFrames = ⊥
+
+-- The bytes end before EOC does, and Psot names this place or none.
+abbrev pub NeedsEocBytes : Head → ℕ → List ℕ → Type 0
+NeedsEocBytes h at bytes = IsPsotRight h at × (length bytes < 2)
+
+-- After a main header and packets the rest of the bytes is refused: where the packet of the first of the remaining precincts should
+-- be, or, where none remains, EOC.
+abbrev pub RefusesNext : Head → List Place → ℕ → List ℕ → WalkRefusal → Type 0
+RefusesNext h [] at rest why = RefusesEoc h at rest why
+RefusesNext h (p ∷ later) at rest why = RefusesPacket (grids h p) rest why
+
+-- After a main header and packets the bytes end before the next packet, or EOC, is whole, and nothing refuses them.
+abbrev pub NeedsNextBytes : Head → List Place → ℕ → List ℕ → Type 0
+NeedsNextBytes h [] at rest = NeedsEocBytes h at rest
+NeedsNextBytes h (p ∷ later) at rest = NeedsPacketBytes (grids h p) rest
+
 -- a packet should begin at this place of the bytes, and this holds of its header, its precinct and what stands there
 abbrev pub HoldsAtPacket : List ℕ → ℕ → (Head → Place → List ℕ → Type 0) → Type 0
 HoldsAtPacket bytes at Holds = (h : Head) × (p : Place) × (later : List Place) × (rest : List ℕ) × BeginsCodestream h (p ∷ later) at rest bytes × Holds h p rest
@@ -74,20 +119,15 @@ HoldsAtPacket bytes at Holds = (h : Head) × (p : Place) × (later : List Place)
 abbrev pub HoldsAtEoc : List ℕ → ℕ → (Head → List ℕ → Type 0) → Type 0
 HoldsAtEoc bytes at Holds = (h : Head) × (rest : List ℕ) × BeginsCodestream h [] at rest bytes × Holds h rest
 
--- two bytes that aren't EOC, and what follows them
-abbrev pub IsOther : List ℕ → Type 0
-IsOther bytes = (a : ℕ) × (b : ℕ) × (more : List ℕ) × (bytes ≡ a ∷ b ∷ more) × ((a ≡ 255) × (b ≡ 217) → ⊥)
-
 -- In the bytes, where a codestream should begin, this is the first item that isn't as it should be, at this place: the main
--- header; at a packet's first byte its number of code-blocks, its header, its length; where EOC should begin Psot, and EOC.
--- The other causes speak of where bytes end.
+-- header; a packet; EOC. The other causes speak of where bytes end.
 abbrev pub RefusesCodestream : List ℕ → ℕ → WalkRefusal → Type 0
 RefusesCodestream bytes at (HeadRefused why) = RefusesHead bytes at why × (why ≢ HeadCut)
-RefusesCodestream bytes at TooManyBlocks = HoldsAtPacket bytes at (λ h p rest. 65536 < block_count (grids h p))
-RefusesCodestream bytes at (HeaderRefused why) = HoldsAtPacket bytes at (λ h p rest. HasFewBlocks (grids h p) × RefusesHeader (grids h p) rest why)
-RefusesCodestream bytes at PacketTooLong = HoldsAtPacket bytes at (λ h p rest. IsPacketTooLong (grids h p) rest)
-RefusesCodestream bytes at Psot = HoldsAtEoc bytes at (λ h rest. IsPsotRight h at → ⊥)
-RefusesCodestream bytes at NoEoc = HoldsAtEoc bytes at (λ h rest. IsPsotRight h at × IsOther rest)
+RefusesCodestream bytes at TooManyBlocks = HoldsAtPacket bytes at (λ h p rest. RefusesPacket (grids h p) rest TooManyBlocks)
+RefusesCodestream bytes at (HeaderRefused why) = HoldsAtPacket bytes at (λ h p rest. RefusesPacket (grids h p) rest (HeaderRefused why))
+RefusesCodestream bytes at PacketTooLong = HoldsAtPacket bytes at (λ h p rest. RefusesPacket (grids h p) rest PacketTooLong)
+RefusesCodestream bytes at Psot = HoldsAtEoc bytes at (λ h rest. RefusesEoc h at rest Psot)
+RefusesCodestream bytes at NoEoc = HoldsAtEoc bytes at (λ h rest. RefusesEoc h at rest NoEoc)
 RefusesCodestream bytes at Cut = ⊥
 RefusesCodestream bytes at InputTooLong = ⊥
 RefusesCodestream bytes at TooManyFrames = ⊥
@@ -97,7 +137,7 @@ abbrev pub NeedsCodestreamBytes : List ℕ → Type 0
 NeedsCodestreamBytes bytes =
     (at : ℕ) × (RefusesHead bytes at HeadCut
     ⊎ (HoldsAtPacket bytes at (λ h p rest. NeedsPacketBytes (grids h p) rest)
-    ⊎ HoldsAtEoc bytes at (λ h rest. IsPsotRight h at × (length rest < 2))))
+    ⊎ HoldsAtEoc bytes at (λ h rest. NeedsEocBytes h at rest)))
 
 -- the bytes that are read of an input, behind so many of it: none past 1,099,511,627,776
 abbrev pub readable : ℕ → List ℕ → List ℕ

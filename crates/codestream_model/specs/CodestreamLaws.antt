@@ -1,5 +1,5 @@
 -- What is promised of codestreams, and of inputs of codestreams: each has one verdict.
-use Rattle.std.specs.Prelude.{◌≡◌, ◌⊎◌, ◌++◌, ℕ, List}
+use Rattle.std.specs.Prelude.{◌≡◌, ◌⊎◌, ◌≤◌, ◌++◌, ℕ, List, length}
 use Rattle.codestream_model.specs.Values.{Head}
 use Rattle.codestream_model.specs.Bytes.{IsBytes}
 use Rattle.codestream_model.specs.Packet.{Content}
@@ -49,3 +49,11 @@ abbrev pub FaultIsOne : Type 0
 FaultIsOne =
     (input : List ℕ) (at place : ℕ) (why reason : WalkRefusal) → (f : Faults input at why) → (g : Faults input place reason)
     → (at ≡ place) × (why ≡ reason) × (f.codestreams ≡ g.codestreams)
+
+-- a refusal of a codestream stays, whatever follows
+abbrev pub CodestreamRefusalsStay : Type 0
+CodestreamRefusalsStay = (bytes more : List ℕ) (at : ℕ) (why : WalkRefusal) → RefusesCodestream bytes at why → RefusesCodestream (bytes ++ more) at why
+
+-- a codestream without its last bytes is unfinished
+abbrev pub CodestreamFrontsNeedBytes : Type 0
+CodestreamFrontsNeedBytes = (front rest : List ℕ) → IsBytes front → IsCodestream (front ++ rest) → 1 ≤ length rest → NeedsCodestreamBytes front

@@ -1,6 +1,6 @@
 //! The laws of codestreams and of inputs, each on a function that does nothing.
 
-ghost use Rattle.codestream_model.specs.CodestreamLaws.{CodestreamsAreReadOneWay, CodestreamsAreJudged, CodestreamsHaveOneVerdict, InputsAreJudged, InputIsNotRefused, InputIsOne, FaultIsOne};
+ghost use Rattle.codestream_model.specs.CodestreamLaws.{CodestreamsAreReadOneWay, CodestreamsAreJudged, CodestreamsHaveOneVerdict, InputsAreJudged, InputIsNotRefused, InputIsOne, FaultIsOne, CodestreamRefusalsStay, CodestreamFrontsNeedBytes};
 
 /// Bytes begin with one codestream at most, and it says one thing.
 pub fn codestreams_are_read_one_way()
@@ -35,4 +35,14 @@ pub fn input_is_one()
 /// An input has one fault at most, at one place, for one reason and behind the same codestreams.
 pub fn fault_is_one()
     ensures { FaultIsOne }
+{}
+
+/// A refusal of a codestream stays, whatever follows.
+pub fn codestream_refusals_stay()
+    ensures { CodestreamRefusalsStay }
+{}
+
+/// A codestream without its last bytes is unfinished.
+pub fn codestream_fronts_need_bytes()
+    ensures { CodestreamFrontsNeedBytes }
 {}

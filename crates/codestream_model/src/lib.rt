@@ -8,8 +8,9 @@ mod laws;
 mod packet_laws;
 
 pub use codestream_laws::{
-    codestreams_are_judged, codestreams_are_read_one_way, codestreams_have_one_verdict,
-    fault_is_one, input_is_not_refused, input_is_one, inputs_are_judged,
+    codestream_fronts_need_bytes, codestream_refusals_stay, codestreams_are_judged,
+    codestreams_are_read_one_way, codestreams_have_one_verdict, fault_is_one, input_is_not_refused,
+    input_is_one, inputs_are_judged,
 };
 pub use laws::{
     each_component_has_precincts, great_pids_are_found, header_is_not_refused, header_is_one,

@@ -33,7 +33,7 @@ use Rattle.stream_model.proofs.CodestreamParts.{spelled_has_parts}
 use Rattle.stream_model.proofs.CutPayloads.{joined-append}
 
 -- where a packet is refused nothing of it is there
-refused_opens : (h : Head) (p : Place) (later : List Place) (rest : List ℕ) (why : WalkRefusal) → packet_step (grids h p) rest ≡ Faulty why → IsOpened h (p ∷ later) rest []
+pub refused_opens : (h : Head) (p : Place) (later : List Place) (rest : List ℕ) (why : WalkRefusal) → packet_step (grids h p) rest ≡ Faulty why → IsOpened h (p ∷ later) rest []
 refused_opens h p later rest why e = inr (
   λ t. (let s : packet_step (grids h p) rest ≡ Short = step_short (grids h p) rest (own_bands h p) (record { few_blocks = t.begins.few_blocks; unfinished = inr t }) in let c : Faulty why ≡ Short = sym e ∙ s in absurd (cc)),
   λ x packet more s f. (let c : Faulty why ≡ Fits (length packet) = sym e ∙ (ap (packet_step (grids h p)) f ∙ step_fits h p x packet more s) in absurd (cc)),
@@ -41,7 +41,7 @@ refused_opens h p later rest why e = inr (
 )
 
 -- nor where its header isn't whole
-unfinished_opens : (h : Head) (p : Place) (later : List Place) (rest : List ℕ) → NeedsHeaderBytes (grids h p) rest → packet_step (grids h p) rest ≡ Short → IsOpened h (p ∷ later) rest []
+pub unfinished_opens : (h : Head) (p : Place) (later : List Place) (rest : List ℕ) → NeedsHeaderBytes (grids h p) rest → packet_step (grids h p) rest ≡ Short → IsOpened h (p ∷ later) rest []
 unfinished_opens h p later rest n e = inr (
   λ t. done_need (length t.header) t.blocks (sym (ap (header_of (grids h p)) t.begins.whole ∙ header_read (grids h p) t.blocks t.header t.rest (own_bands h p) t.begins.is_header) ∙ needs_read (grids h p) rest (own_bands h p) n),
   λ x packet more s f. (let c : Short ≡ Fits (length packet) = sym e ∙ (ap (packet_step (grids h p)) f ∙ step_fits h p x packet more s) in absurd (cc)),
@@ -135,7 +135,7 @@ record Split (bytes : List ℕ) (before : List (List ℕ)) (parts : List Parts) 
   few : length before ≤ 65536
 
 -- one more of each
-zip_push : (parts : List Parts) (before : List (List ℕ)) (c : Parts) (codestream : List ℕ) → AllZip (λ c codestream. ArePartsOf c codestream) parts before → ArePartsOf c codestream → AllZip (λ c codestream. ArePartsOf c codestream) (parts ++ c ∷ []) (before ++ codestream ∷ [])
+pub zip_push : (parts : List Parts) (before : List (List ℕ)) (c : Parts) (codestream : List ℕ) → AllZip (λ c codestream. ArePartsOf c codestream) parts before → ArePartsOf c codestream → AllZip (λ c codestream. ArePartsOf c codestream) (parts ++ c ∷ []) (before ++ codestream ∷ [])
 zip_push [] [] c codestream a b = (b, tt)
 zip_push [] (x ∷ before) c codestream a b = absurd a
 zip_push (p ∷ parts) [] c codestream a b = absurd a

@@ -78,7 +78,7 @@ parts_agree (p ∷ ps) (q ∷ qs) (x ∷ xs) a b =
     rw (e, parts_agree ps qs xs a.1 b.1) refl
 
 -- each is a codestream
-each_is : (ps : List Parts) (xs : List (List ℕ)) → AllZip (λ c b. ArePartsOf c b) ps xs → AllByRecursion IsCodestream xs
+pub each_is : (ps : List Parts) (xs : List (List ℕ)) → AllZip (λ c b. ArePartsOf c b) ps xs → AllByRecursion IsCodestream xs
 each_is [] [] a = tt
 each_is [] (x ∷ xs) a = absurd a
 each_is (p ∷ ps) [] a = absurd a
@@ -229,7 +229,7 @@ cut_placed p i at [] = refl
 cut_placed p i at (c ∷ parts) = ap (λ l. datagrams_of (the_sent p i at c) ++ l) (cut_placed p (i + 1) (at + count_of p c) parts)
 
 -- nothing begins with no bytes
-nothing_next : (n : ℕ) → n ≤ 65536 → IsNext n [] []
+pub nothing_next : (n : ℕ) → n ≤ 65536 → IsNext n [] []
 nothing_next n most = elim (cases_lt n 65536) [
   | inr all ↦ inl (omega arith, refl)
   | inl few ↦ inr (

@@ -2,7 +2,7 @@
 use Rattle.std.proofs.Common.{◌≡◌, ◌+◌, ◌==◌, ◌&&◌, ℕ, zero, suc, true, false, List, [], ◌∷◌, length, Some, refl, ap, ◌∙◌, arith, if◌then◌else◌}
 use Rattle.wire_model.specs.Datagram.{Datagram, datagram_of, is_well_formed}
 use Rattle.stream_model.specs.Decoder.{take_gap}
-use Rattle.stream_model.specs.Window.{Hand, Gap, Nothing, next, Offer, Old, Drain, Kept, offer, hold, make_due, make_all_due}
+use Rattle.stream_model.specs.Window.{Hand, Gap, Nothing, next, Offer, Behind, Again, Drain, Kept, offer, hold, make_due, make_all_due}
 use Rattle.stream_model.specs.Receiver.{Pick, Receiver, new_receiver, drained, drain, followed, decoded, keep, offered, is_source, take_datagram, take_frame, take_frames, received}
 use Rattle.stream_model.specs.Stream.{extended_number}
 use Rattle.stream_model.specs.ReceiverLaws.{MalformedFramesAreCountedAlone, EachFrameIsCountedOnce}
@@ -16,11 +16,11 @@ unfolding drained
 counted-drained zero r = refl
 counted-drained (suc n) r = elim (next r.window r.window.base) as (λ v. counted (elim v [
   | Hand x w ↦ drained n (followed (record r { window = w }) (decoded r.decoder x x.payload))
-  | Gap w ↦ drained n (record r { window = w; decoder = take_gap r.decoder })
+  | Gap count w ↦ drained n (record r { window = w; decoder = take_gap r.decoder })
   | Nothing ↦ r
 ]) ≡ counted r) [
   | Hand x w ↦ counted-drained n (followed (record r { window = w }) (decoded r.decoder x x.payload))
-  | Gap w ↦ counted-drained n (record r { window = w; decoder = take_gap r.decoder })
+  | Gap count w ↦ counted-drained n (record r { window = w; decoder = take_gap r.decoder })
   | Nothing ↦ refl
 ]
 
@@ -31,7 +31,8 @@ counted-keep : (r : Receiver) (x : Datagram) → counted (keep r x) ≡ counted 
 counted-keep r x = counted-drain (record r { window = hold r.window (extended_number x) x; kept = r.kept + 1 }) ∙ omega arith
 
 counted-offered : (r : Receiver) (x : Datagram) (o : Offer) → counted (offered r x o) ≡ counted r + 1
-counted-offered r x Old = omega arith
+counted-offered r x Behind = omega arith
+counted-offered r x Again = omega arith
 counted-offered r x (Drain n) = counted-keep (drain (record r { window = make_due n r.window })) x ∙ ap (λ (k : ℕ). k + 1) (counted-drain (record r { window = make_due n r.window }))
 counted-offered r x Kept = counted-keep r x
 
@@ -41,13 +42,13 @@ counted-taken pick r x = elim (is_source r.source x.rtp.source) as (λ b. counte
   | false ↦ omega arith
 ]
 
-counted-frame : (pick : Pick) (r : Receiver) (frame : List ℕ) → counted (take_frame pick r frame) ≡ counted r + 1
+pub counted-frame : (pick : Pick) (r : Receiver) (frame : List ℕ) → counted (take_frame pick r frame) ≡ counted r + 1
 counted-frame pick r frame = elim (is_well_formed frame && ((datagram_of frame).rtp.kind == pick.kind)) as (λ b. counted (if b then take_datagram pick r (datagram_of frame) else record r { refused = r.refused + 1 }) ≡ counted r + 1) [
   | true ↦ counted-taken pick r (datagram_of frame)
   | false ↦ omega arith
 ]
 
-counted-frames : (pick : Pick) (r : Receiver) (frames : List (List ℕ)) → counted (take_frames pick r frames) ≡ counted r + length frames
+pub counted-frames : (pick : Pick) (r : Receiver) (frames : List (List ℕ)) → counted (take_frames pick r frames) ≡ counted r + length frames
 unfolding take_frames
 counted-frames pick r [] = omega arith
 counted-frames pick r (f ∷ frames) =

@@ -130,7 +130,7 @@ written [] h = tt
 written (x ∷ xs) h = (written_is_datagram x h.0.0 h.0.1 h.0.2, written xs h.1)
 
 -- have one source and one payload type,
-all_one : (p : Plan) (i at : ℕ) (parts : List Parts) → AllByRecursion (λ x. (x.rtp.source ≡ p.source) × (x.rtp.kind ≡ p.kind)) (flat_map datagrams_of (placed (count_of p) (the_sent p) i at parts))
+pub all_one : (p : Plan) (i at : ℕ) (parts : List Parts) → AllByRecursion (λ x. (x.rtp.source ≡ p.source) × (x.rtp.kind ≡ p.kind)) (flat_map datagrams_of (placed (count_of p) (the_sent p) i at parts))
 all_one p i at [] = tt
 all_one p i at (c ∷ parts) =
     let stamp : ℕ = stamp_at p i in

@@ -99,7 +99,7 @@ abbrev pub StandsIn : List Datagram → Mark → Type 0
 StandsIn bodies m = (payload_start bodies m.body ≤ m.place) × (m.place < payload_start bodies (m.body + 1))
 
 -- where a Body starts and ends
-starts_here : (bodies front : List Datagram) (x : Datagram) (rest : List Datagram) (i at : ℕ) → bodies ≡ front ++ x ∷ rest → length front ≡ i → at ≡ sum_by (λ y. length y.codestream) front → (payload_start bodies i ≡ at) × (payload_start bodies (i + 1) ≡ at + length x.codestream)
+pub starts_here : (bodies front : List Datagram) (x : Datagram) (rest : List Datagram) (i at : ℕ) → bodies ≡ front ++ x ∷ rest → length front ≡ i → at ≡ sum_by (λ y. length y.codestream) front → (payload_start bodies i ≡ at) × (payload_start bodies (i + 1) ≡ at + length x.codestream)
 starts_here bodies front x rest i at e n start =
     let f : Datagram → ℕ = λ y. length y.codestream in
     let one = ap (λ l. sum_by f (take (length front) l)) e ∙ ap (sum_by f) (take-append_seam front (x ∷ rest)) in

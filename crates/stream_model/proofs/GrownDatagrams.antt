@@ -54,7 +54,7 @@ bytes_are : (bs : List (List ℕ)) → sum_by (λ b. length b) bs ≡ length (jo
 bytes_are bs = sym (length-flat_map (λ (b : List ℕ). b) bs)
 
 -- those of what is there: no more than the pieces, or EOC too
-unended_bytes : (p : Plan) (c : Known) → 1 ≤ room p → c.ended ≡ false → sum_by (λ b. length b) (payloads p c) ≤ total c.pieces
+pub unended_bytes : (p : Plan) (c : Known) → 1 ≤ room p → c.ended ≡ false → sum_by (λ b. length b) (payloads p c) ≤ total c.pieces
 unended_bytes p c some e =
     let is : payloads p c ≡ closed_payloads (room p) (stretches p.split c.pieces) = rw e refl in
     omega (arith, bytes_are (payloads p c), ap (λ (l : List (List ℕ)). length (joined l)) is, closed_less (room p) (stretches p.split c.pieces) some, ap length (stretches_join p.split c.pieces), total_is c.pieces)
@@ -66,7 +66,7 @@ ended_bytes p c some e =
     omega (arith, bytes_are (payloads p c), ap (λ (l : List (List ℕ)). length (joined l)) is, ap length (all_chunks_join (room p) (with_eoc (stretches p.split c.pieces)) some), ap length (with_eoc_joins (stretches p.split c.pieces)), length-append (joined (stretches p.split c.pieces)) (255 ∷ 217 ∷ []), ap length (stretches_join p.split c.pieces), total_is c.pieces)
 
 -- none of the payloads is empty
-unended_some : (p : Plan) (c : Known) → 1 ≤ room p → c.ended ≡ false → AllByRecursion (λ b. 1 ≤ length b) (payloads p c)
+pub unended_some : (p : Plan) (c : Known) → 1 ≤ room p → c.ended ≡ false → AllByRecursion (λ b. 1 ≤ length b) (payloads p c)
 unended_some p c some e =
     let is : payloads p c ≡ closed_payloads (room p) (stretches p.split c.pieces) = rw e refl in
     let P : List (List ℕ) → Type 0 = λ l. AllByRecursion (λ b. 1 ≤ length b) l in
@@ -88,7 +88,7 @@ grown_bytes was now (inr (front, last, extra, more, e, f)) =
     )
 
 -- a Body that is closed stays as it is
-body_stays : (p : Plan) (stamp position : ℕ) (c d : Known) (marker now : Bool) (from : ℕ) (payload : List ℕ) → c.head ≡ d.head → HasGrown c.pieces d.pieces → marker ≡ now → 1 ≤ length payload → from + length payload ≤ total c.pieces
+pub body_stays : (p : Plan) (stamp position : ℕ) (c d : Known) (marker now : Bool) (from : ℕ) (payload : List ℕ) → c.head ≡ d.head → HasGrown c.pieces d.pieces → marker ≡ now → 1 ≤ length payload → from + length payload ≤ total c.pieces
     → body_at p stamp position c marker from payload ≡ body_at p stamp position d now from payload
 body_stays p stamp position c d marker now from payload h (inl none) m some within = absurd (omega (arith, ap total none))
 body_stays p stamp position c d marker now from payload h (inr (front, last, extra, more, e, f)) m some within =
@@ -105,7 +105,7 @@ body_stays p stamp position c d marker now from payload h (inr (front, last, ext
     rw (m, header) refl
 
 -- items that are placed one after another
-placed-append : {A B : Type 0} (f : A → ℕ) (g : ℕ → ℕ → A → B) (i at : ℕ) (xs ys : List A) → placed f g i at (xs ++ ys) ≡ placed f g i at xs ++ placed f g (i + length xs) (at + sum_by f xs) ys
+pub placed-append : {A B : Type 0} (f : A → ℕ) (g : ℕ → ℕ → A → B) (i at : ℕ) (xs ys : List A) → placed f g i at (xs ++ ys) ≡ placed f g i at xs ++ placed f g (i + length xs) (at + sum_by f xs) ys
 placed-append f g i at [] ys = let e : i ≡ i + 0 = omega arith in let d : at ≡ at + 0 = omega arith in ap (λ n. placed f g n at ys) e ∙ ap (λ n. placed f g (i + 0) n ys) d
 placed-append f g i at (x ∷ xs) ys =
     let e : i + 1 + length xs ≡ i + suc (length xs) = omega arith in
@@ -113,7 +113,7 @@ placed-append f g i at (x ∷ xs) ys =
     ap (λ zs. g i at x ∷ zs) (placed-append f g (i + 1) (at + f x) xs ys ∙ (ap (λ n. placed f g (i + 1) (at + f x) xs ++ placed f g n (at + f x + sum_by f xs) ys) e ∙ ap (λ n. placed f g (i + 1) (at + f x) xs ++ placed f g (i + suc (length xs)) n ys) d))
 
 -- as long as they are made alike
-placed_alike : (g k : ℕ → ℕ → List ℕ → Datagram) (n limit i at : ℕ) (xs : List (List ℕ)) → ((j from : ℕ) (x : List ℕ) → j < n → 1 ≤ length x → from + length x ≤ limit → g j from x ≡ k j from x)
+pub placed_alike : (g k : ℕ → ℕ → List ℕ → Datagram) (n limit i at : ℕ) (xs : List (List ℕ)) → ((j from : ℕ) (x : List ℕ) → j < n → 1 ≤ length x → from + length x ≤ limit → g j from x ≡ k j from x)
     → i + length xs ≤ n → at + sum_by (λ b. length b) xs ≤ limit → AllByRecursion (λ b. 1 ≤ length b) xs → placed (λ b. length b) g i at xs ≡ placed (λ b. length b) k i at xs
 placed_alike g k n limit i at [] same few within some = refl
 placed_alike g k n limit i at (x ∷ xs) same few within some =
@@ -132,7 +132,7 @@ unmarked true c h = h refl
 unmarked false c h = refl
 
 -- M stays 0 on the payloads that are closed before the end
-marker_stays : (p : Plan) (c d : Known) (q : List (List ℕ)) (j : ℕ) → 1 ≤ room p → c.ended ≡ false → HasGrown c.pieces d.pieces → payloads p d ≡ payloads p c ++ q → j < length (payloads p c)
+pub marker_stays : (p : Plan) (c d : Known) (q : List (List ℕ)) (j : ℕ) → 1 ≤ room p → c.ended ≡ false → HasGrown c.pieces d.pieces → payloads p d ≡ payloads p c ++ q → j < length (payloads p c)
     → (c.ended && (j + 1 == length (payloads p c))) ≡ (d.ended && (j + 1 == length (payloads p d)))
 marker_stays p c d q j some e grown is low =
     let was : (c.ended && (j + 1 == length (payloads p c))) ≡ false = rw e refl in
@@ -164,11 +164,11 @@ bodies_front p stamp at c d some e h grown =
     )
 
 -- the datagrams of a codestream
-abbrev those_of : Plan → ℕ → ℕ → Known → List Datagram
+abbrev pub those_of : Plan → ℕ → ℕ → Known → List Datagram
 those_of p i at c = main_at p (stamp_at p i) at c ∷ bodies_at p (stamp_at p i) at c
 
 -- how many they are
-abbrev many_of : Plan → Known → ℕ
+abbrev pub many_of : Plan → Known → ℕ
 many_of p c = 1 + length (payloads p c)
 
 -- those of codestreams that are numbered and placed one after another

@@ -27,16 +27,16 @@ abbrev ready : Option ℕ → Option ℕ → Decoder → List Precinct → ℕ �
 ready source base d xs kept = record { source = source; window = record { base = base; due = 0; held = [] }; decoder = d; precincts = xs; kept = kept; old = 0; refused = 0 }
 
 -- the datagram that is held is handed on, and then nothing is left
-hands : (n : ℕ) (x : Datagram) → next (record { base = Some n; due = 0; held = record { number = n; datagram = x } ∷ [] }) (Some n) ≡ Hand x (record { base = Some ((n + 1) % 2 ^ 24); due = 0; held = [] })
+hands : (n : ℕ) (x : Datagram) → next (record { base = Some n; due = 0; held = record { number = n; item = x } ∷ [] }) (Some n) ≡ Hand x (record { base = Some ((n + 1) % 2 ^ 24); due = 0; held = [] })
 hands n x =
-    let h : Held = record { number = n; datagram = x } in
+    let h : Held Datagram = record { number = n; item = x } in
     let e = same_number n in
-    let found : find (λ (y : Held). y.number == n) (h ∷ []) ≡ Some h = rw e refl in
-    let left : filter (λ (y : Held). not (y.number == n)) (h ∷ []) ≡ [] = rw e refl in
+    let found : find (λ (y : Held Datagram). y.number == n) (h ∷ []) ≡ Some h = rw e refl in
+    let left : filter (λ (y : Held Datagram). not (y.number == n)) (h ∷ []) ≡ [] = rw e refl in
     ap (next_at n (record { base = Some n; due = 0; held = h ∷ [] })) found ∙ ap (λ l. Hand x (record { base = Some ((n + 1) % 2 ^ 24); due = 0; held = l })) left
 
 -- one that is handed on is decoded
-drained_hand : (m : ℕ) (r : Receiver) (x : Datagram) (w : Window) → next r.window r.window.base ≡ Hand x w → drained (suc m) r ≡ drained m (followed (record r { window = w }) (decoded r.decoder x x.payload))
+drained_hand : (m : ℕ) (r : Receiver) (x : Datagram) (w : Window Datagram) → next r.window r.window.base ≡ Hand x w → drained (suc m) r ≡ drained m (followed (record r { window = w }) (decoded r.decoder x x.payload))
 unfolding drained
 drained_hand m r x w e = rw (e, drained) refl
 
@@ -47,10 +47,10 @@ drained_none m r e = rw (e, drained) refl
 
 -- a datagram that is kept where nothing is held
 kept_one : (source base : Option ℕ) (d : Decoder) (xs : List Precinct) (k n : ℕ) (x : Datagram)
-    → drained 3 (record { source = source; window = record { base = Some n; due = 0; held = record { number = n; datagram = x } ∷ [] }; decoder = d; precincts = xs; kept = k; old = 0; refused = 0 })
+    → drained 3 (record { source = source; window = record { base = Some n; due = 0; held = record { number = n; item = x } ∷ [] }; decoder = d; precincts = xs; kept = k; old = 0; refused = 0 })
     ≡ ready source (Some ((n + 1) % 2 ^ 24)) (settled (decoded d x x.payload)).decoder (xs ++ (settled (decoded d x x.payload)).precincts) k
 kept_one source base d xs k n x =
-    drained_hand 2 (record { source = source; window = record { base = Some n; due = 0; held = record { number = n; datagram = x } ∷ [] }; decoder = d; precincts = xs; kept = k; old = 0; refused = 0 }) x (record { base = Some ((n + 1) % 2 ^ 24); due = 0; held = [] }) (hands n x)
+    drained_hand 2 (record { source = source; window = record { base = Some n; due = 0; held = record { number = n; item = x } ∷ [] }; decoder = d; precincts = xs; kept = k; old = 0; refused = 0 }) x (record { base = Some ((n + 1) % 2 ^ 24); due = 0; held = [] }) (hands n x)
     ∙ drained_none 1 (ready source (Some ((n + 1) % 2 ^ 24)) (settled (decoded d x x.payload)).decoder (xs ++ (settled (decoded d x x.payload)).precincts) k) refl
 
 -- the next datagram in order is kept
@@ -63,18 +63,18 @@ ahead_none : (n : ℕ) → ahead n n ≡ 0
 ahead_none n = omega arith
 
 -- so the window keeps it
-next_kept : (window : ℕ) (base : Option ℕ) (n : ℕ) → 1 ≤ window → IsNext base n → offer window n (record { base = base; due = 0; held = [] }) base ≡ Kept
+next_kept : (window : ℕ) (base : Option ℕ) (n : ℕ) → 1 ≤ window → IsNext base n → offer {T = Datagram} window n (record { base = base; due = 0; held = [] }) base ≡ Kept
 next_kept window None n some is = refl
 next_kept window (Some base) n some is =
     let z : ahead base n ≡ 0 = ap (λ b. ahead b n) is ∙ ahead_none n in
     let far : nat_le (2 ^ 23) 0 ≡ false = refl in
     let near : nat_le window 0 ≡ false = lt-leb window 0 (omega arith) in
-    ap (λ a. offer_ahead window a n []) z ∙ rw near refl
+    ap (λ a. offer_ahead {T = Datagram} window a n []) z ∙ rw near refl
 
 -- and held at its own number
-held_at : (base : Option ℕ) (n : ℕ) (x : Datagram) → IsNext base n → hold (record { base = base; due = 0; held = [] }) n x ≡ record { base = Some n; due = 0; held = record { number = n; datagram = x } ∷ [] }
+held_at : (base : Option ℕ) (n : ℕ) (x : Datagram) → IsNext base n → hold (record { base = base; due = 0; held = [] }) n x ≡ record { base = Some n; due = 0; held = record { number = n; item = x } ∷ [] }
 held_at None n x is = refl
-held_at (Some base) n x is = ap (λ b. record { base = Some b; due = 0; held = record { number = n; datagram = x } ∷ [] }) is
+held_at (Some base) n x is = ap (λ b. record { base = Some b; due = 0; held = record { number = n; item = x } ∷ [] }) is
 
 -- a frame of a stream in order
 frame_taken : (pick : Pick) (source base : Option ℕ) (d : Decoder) (xs : List Precinct) (k : ℕ) (x : Datagram) (frame : List ℕ) → IsDatagram x frame → 1 ≤ pick.window → pick.kind ≡ x.rtp.kind → (source ≡ None) ⊎ (source ≡ Some x.rtp.source) → IsNext base (extended_number x)

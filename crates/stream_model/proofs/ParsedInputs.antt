@@ -25,7 +25,7 @@ use Rattle.stream_model.specs.CommandLaws.{precincts_of, stamp_of, Said, AreCode
 use Rattle.stream_model.proofs.ParsedPackets.{bytes_behind, codestream_long, head_long, parsed_codestreams, parsed_rest}
 
 -- codestreams are shorter in number than in bytes
-many_bytes : (said : List Said) (codestreams : List (List ℕ)) → AreCodestreams said codestreams → 2 * length codestreams ≤ length (joined codestreams)
+pub many_bytes : (said : List Said) (codestreams : List (List ℕ)) → AreCodestreams said codestreams → 2 * length codestreams ≤ length (joined codestreams)
 many_bytes [] [] a = omega arith
 many_bytes [] (c ∷ codestreams) a = absurd a
 many_bytes (x ∷ said) [] a = absurd a
@@ -101,18 +101,18 @@ whole_inputs stamp step input ended said codestreams low fits is are =
     whole_packets stamp step input ended said codestreams [] [] low fits all are (none_follow stamp step (length codestreams) is.few) ∙ ap lines (append-nil (precincts_from stamp step 0 said))
 
 -- a refused main header isn't there
-head_lacks : (bytes : List ℕ) (at : ℕ) (why : HeadRefusal) → RefusesHead bytes at why → BeginsWithHead bytes → ⊥
+pub head_lacks : (bytes : List ℕ) (at : ℕ) (why : HeadRefusal) → RefusesHead bytes at why → BeginsWithHead bytes → ⊥
 head_lacks bytes at why r (h, head, more, s, e) =
     let P : List ℕ → Type 0 = λ l. RefusesHead l at why in
     header_is_not_refused h head more at why s (subst P e r)
 
 -- a packet begins with its header
-packet_header : (h : Head) (p : Place) (bytes : List ℕ) → BeginsWithPacket h p bytes → BeginWithHeader (grids h p) bytes
+pub packet_header : (h : Head) (p : Place) (bytes : List ℕ) → BeginsWithPacket h p bytes → BeginWithHeader (grids h p) bytes
 packet_header h p bytes (x, packet, more, s, e) =
     (x.blocks, s.header, x.bytes ++ more, s.is_header, e ∙ (ap (λ (l : List ℕ). l ++ more) s.whole ∙ append_assoc s.header x.bytes more))
 
 -- a packet that would be too long isn't there,
-long_lacks : (h : Head) (p : Place) (bytes : List ℕ) → IsPacketTooLong (grids h p) bytes → BeginsWithPacket h p bytes → ⊥
+pub long_lacks : (h : Head) (p : Place) (bytes : List ℕ) → IsPacketTooLong (grids h p) bytes → BeginsWithPacket h p bytes → ⊥
 unfolding packet_header
 long_lacks h p bytes t (x, packet, more, s, e) =
     let b = packet_header h p bytes (x, packet, more, s, e) in
@@ -132,7 +132,7 @@ short_lacks h p bytes t (x, packet, more, s, e) =
     absurd (omega (arith, t.lacks, s.segments, ap length one.0, ap length whole, length-append t.header t.rest, length-append s.header (x.bytes ++ more), length-append x.bytes more))
 
 -- so one that isn't whole isn't there
-needs_lacks : (h : Head) (p : Place) (bytes : List ℕ) → NeedsPacketBytes (grids h p) bytes → BeginsWithPacket h p bytes → ⊥
+pub needs_lacks : (h : Head) (p : Place) (bytes : List ℕ) → NeedsPacketBytes (grids h p) bytes → BeginsWithPacket h p bytes → ⊥
 needs_lacks h p bytes t b = elim t.unfinished [
   | inl n ↦ (one_verdict (grids h p) bytes (own_bands h p)).not_unfinished (packet_header h p bytes b) n
   | inr n ↦ short_lacks h p bytes n b
@@ -151,7 +151,7 @@ before_eoc : (stamp : ℕ) (bytes : List ℕ) (at : ℕ) (Holds : Head → List 
 before_eoc stamp bytes at Holds lacks (h, rest, b, holds) = (precincts_of h stamp b.before b.content, inr (h, [], at, rest, b, lacks h rest holds, refl))
 
 -- other bytes aren't EOC
-other_lacks : (bytes : List ℕ) → IsOther bytes → (more : List ℕ) → bytes ≡ 255 ∷ 217 ∷ more → ⊥
+pub other_lacks : (bytes : List ℕ) → IsOther bytes → (more : List ℕ) → bytes ≡ 255 ∷ 217 ∷ more → ⊥
 other_lacks bytes (a, b, rest, e, differs) more f =
     let g : a ∷ b ∷ rest ≡ 255 ∷ 217 ∷ more = sym e ∙ f in
     let p : a ≡ 255 = cc in
@@ -159,7 +159,7 @@ other_lacks bytes (a, b, rest, e, differs) more f =
     differs (p, q)
 
 -- nor is one byte
-few_lacks : (bytes more : List ℕ) → length bytes < 2 → bytes ≡ 255 ∷ 217 ∷ more → ⊥
+pub few_lacks : (bytes more : List ℕ) → length bytes < 2 → bytes ≡ 255 ∷ 217 ∷ more → ⊥
 few_lacks bytes more h e = absurd (omega (arith, ap length e))
 
 -- before a refusal,

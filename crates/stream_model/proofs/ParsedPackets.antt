@@ -28,7 +28,7 @@ use Rattle.stream_model.specs.CommandLaws.{precincts_of, stamp_of, Said, AreCode
 use Rattle.stream_model.proofs.PacketsFound.{packet_found, segments_taken, found_sound}
 
 -- a walk that has found these precincts before
-abbrev found_before : List Precinct → Walked → Walked
+abbrev pub found_before : List Precinct → Walked → Walked
 found_before xs w = record w { precincts = xs ++ w.precincts }
 
 -- a whole packet is passed
@@ -142,7 +142,7 @@ order_is h head places s fits order =
     packet_order_is_one h (packet_order h) places (packet_order_is_computed h steps) order
 
 -- a walk behind a main header, and packets
-walk_begun : (h : Head) (stamp at : ℕ) (later : List Place) (rest bytes : List ℕ) (b : BeginsCodestream h later at rest bytes) → IsBytes bytes
+pub walk_begun : (h : Head) (stamp at : ℕ) (later : List Place) (rest bytes : List ℕ) (b : BeginsCodestream h later at rest bytes) → IsBytes bytes
     → walk_behind (head_of bytes) stamp bytes ≡ found_before (precincts_of h stamp b.before b.content) (walk h stamp at later rest)
 walk_begun h stamp at later rest bytes b fits =
     let read : head_of bytes ≡ Ok h = ap head_of b.whole ∙ header_is_read_one_way h b.head (b.packets ++ rest) b.is_head in
@@ -194,7 +194,7 @@ parsed_some n stamp step [] some = absurd (omega arith)
 parsed_some n stamp step (b ∷ bytes) some = refl
 
 -- what is parsed where the walk is this
-parsed_by : (n stamp step : ℕ) (bytes : List ℕ) (w : Walked) → 1 ≤ length bytes → walk_behind (head_of bytes) stamp bytes ≡ w
+pub parsed_by : (n stamp step : ℕ) (bytes : List ℕ) (w : Walked) → 1 ≤ length bytes → walk_behind (head_of bytes) stamp bytes ≡ w
     → parsed (suc n) stamp step bytes ≡ w.precincts ++ (if w.whole then parsed n ((stamp + step) % 2 ^ 32) step w.rest else [])
 parsed_by n stamp step bytes w some e =
     parsed_some n stamp step bytes some ∙ ap (λ (x : Walked). x.precincts ++ (if x.whole then parsed n ((stamp + step) % 2 ^ 32) step x.rest else [])) e

@@ -188,7 +188,7 @@ gives_what_is_reached sent codestreams datagrams frames events pick c some a =
 -- the window's next number is the base's
 window_by : (number : ℕ) (dg : ℕ → Datagram) (end window : ℕ) (events : List ℕ) (r : Receiver) → 1 ≤ length events → Known number dg end window events r → (r.window.base ≡ Some ((number + base events window) % 2 ^ 24)) × (r.window.due ≡ 0)
 window_by number dg end window [] r some k = absurd (omega arith)
-window_by number dg end window (x ∷ xs) r some (h, k) = (ap (λ (w : Window). w.base) h.window, ap (λ (w : Window). w.due) h.window)
+window_by number dg end window (x ∷ xs) r some (h, k) = (ap (λ (w : Window Datagram). w.base) h.window, ap (λ (w : Window Datagram). w.due) h.window)
 
 -- so with a stream
 pub window_is_at_base : WindowIsAtBase

@@ -48,7 +48,7 @@ step_first number dg end window a r w d p k some few inside is_number =
     } in
     let elsewhere : (i : ℕ) → (a ≡ i → ⊥) → now i ≡ was i = λ i m. not_arrived (a ∷ []) i window (let e : (a == i) ≡ false = elim (eqb_tells a i) [ inl t ↦ absurd (m t.1) | inr t ↦ t.0 ] in rw e refl) in
     let t = keep_holding number dg end a a was now other h few inside (omega arith) is_number (alone a window) elsewhere in
-    let same : hold r.window n (dg a) ≡ hold other.window n (dg a) = ap (λ v. hold v n (dg a)) w ∙ ap (λ m. record { base = Some m; due = 0; held = record { number = n; datagram = dg a } ∷ [] }) is_number in
+    let same : hold r.window n (dg a) ≡ hold other.window n (dg a) = ap (λ v. hold v n (dg a)) w ∙ ap (λ m. record { base = Some m; due = 0; held = record { number = n; item = dg a } ∷ [] }) is_number in
     let kept : keep r (dg a) ≡ keep other (dg a) = ap (λ v. drain (record r { window = v; kept = r.kept + 1 })) same in
     let b : base (a ∷ []) window ≡ t.0 = base_is (a ∷ []) window t.0 (omega (arith, t.1, some)) t.2 (λ i l m. t.3 i (omega arith) m) in
     let held = holding_as number dg end t.0 (base (a ∷ []) window) now now (keep other (dg a)) (keep other (dg a)) (sym b) (λ i. refl) refl refl refl t.4 in
@@ -84,11 +84,11 @@ pub record IsStreamAt (number : ℕ) (dg : ℕ → Datagram) (datagrams : List (
   pub few : length datagrams < 8388608
 
 -- the source is picked already, or it is that of the first frame of the payload type that follows
-abbrev SourceIs : Pick → ℕ → List (List ℕ) → Option ℕ → Type 0
+abbrev pub SourceIs : Pick → ℕ → List (List ℕ) → Option ℕ → Type 0
 SourceIs pick src frames source = (source ≡ Some src) ⊎ ((source ≡ None) × (src ≡ slice_index (map source_of (filter (is_of_kind pick.kind) frames)) 0))
 
 -- a frame that is picked
-abbrev is_picked : Pick → ℕ → List ℕ → Bool
+abbrev pub is_picked : Pick → ℕ → List ℕ → Bool
 is_picked pick src frame = is_of_kind pick.kind frame && (source_of frame == src)
 
 -- equality one way is equality the other way
@@ -99,20 +99,20 @@ same_test a b = elim (eqb_tells a b) [
 ]
 
 -- a frame of another payload type, or malformed,
-other_kind : (pick : Pick) (r : Receiver) (f : List ℕ) → is_of_kind pick.kind f ≡ false → take_frame pick r f ≡ record r { refused = r.refused + 1 }
+pub other_kind : (pick : Pick) (r : Receiver) (f : List ℕ) → is_of_kind pick.kind f ≡ false → take_frame pick r f ≡ record r { refused = r.refused + 1 }
 other_kind pick r f e = ap (λ (b : Bool). if b then take_datagram pick r (datagram_of f) else record r { refused = r.refused + 1 }) e
 
 -- one of the payload type
-of_kind : (pick : Pick) (r : Receiver) (f : List ℕ) → is_of_kind pick.kind f ≡ true → take_frame pick r f ≡ take_datagram pick r (datagram_of f)
+pub of_kind : (pick : Pick) (r : Receiver) (f : List ℕ) → is_of_kind pick.kind f ≡ true → take_frame pick r f ≡ take_datagram pick r (datagram_of f)
 of_kind pick r f e = ap (λ (b : Bool). if b then take_datagram pick r (datagram_of f) else record r { refused = r.refused + 1 }) e
 
 -- is of the source that is picked,
-right_source : (pick : Pick) (src : ℕ) (f : List ℕ) (rest : List (List ℕ)) (source : Option ℕ) → SourceIs pick src (f ∷ rest) source → (source_of f == src) ≡ true → is_source source (source_of f) ≡ true
+pub right_source : (pick : Pick) (src : ℕ) (f : List ℕ) (rest : List (List ℕ)) (source : Option ℕ) → SourceIs pick src (f ∷ rest) source → (source_of f == src) ≡ true → is_source source (source_of f) ≡ true
 right_source pick src f rest source (inl e) t = ap (λ o. is_source o (source_of f)) e ∙ (same_test src (source_of f) ∙ t)
 right_source pick src f rest source (inr (e, g)) t = ap (λ o. is_source o (source_of f)) e
 
 -- or of another
-wrong_source : (pick : Pick) (src : ℕ) (f : List ℕ) (rest : List (List ℕ)) (source : Option ℕ) → SourceIs pick src (f ∷ rest) source → is_of_kind pick.kind f ≡ true → (source_of f == src) ≡ false → (is_source source (source_of f) ≡ false) × (source ≡ Some src)
+pub wrong_source : (pick : Pick) (src : ℕ) (f : List ℕ) (rest : List (List ℕ)) (source : Option ℕ) → SourceIs pick src (f ∷ rest) source → is_of_kind pick.kind f ≡ true → (source_of f == src) ≡ false → (is_source source (source_of f) ≡ false) × (source ≡ Some src)
 wrong_source pick src f rest source (inl e) k t = (ap (λ o. is_source o (source_of f)) e ∙ (same_test src (source_of f) ∙ t), e)
 wrong_source pick src f rest source (inr (e, g)) k t =
     let s : src ≡ source_of f = g ∙ ap (λ b. slice_index (map source_of (cond b (f ∷ filter (is_of_kind pick.kind) rest) (filter (is_of_kind pick.kind) rest))) 0) k in
@@ -120,7 +120,7 @@ wrong_source pick src f rest source (inr (e, g)) k t =
     absurd (cc)
 
 -- a source that isn't picked yet isn't by a frame of another payload type
-source_stays : (pick : Pick) (src : ℕ) (f : List ℕ) (rest : List (List ℕ)) (source : Option ℕ) → SourceIs pick src (f ∷ rest) source → is_of_kind pick.kind f ≡ false → SourceIs pick src rest source
+pub source_stays : (pick : Pick) (src : ℕ) (f : List ℕ) (rest : List (List ℕ)) (source : Option ℕ) → SourceIs pick src (f ∷ rest) source → is_of_kind pick.kind f ≡ false → SourceIs pick src rest source
 source_stays pick src f rest source (inl e) k = inl e
 source_stays pick src f rest source (inr (e, g)) k =
     inr (e, g ∙ ap (λ b. slice_index (map source_of (cond b (f ∷ filter (is_of_kind pick.kind) rest) (filter (is_of_kind pick.kind) rest))) 0) k)

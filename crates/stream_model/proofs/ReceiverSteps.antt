@@ -9,14 +9,14 @@ use Rattle.codestream_model.proofs.TreeLemmas.{either}
 use Rattle.stream_model.specs.Arrivals.{in_time, base, positions_in_time}
 use Rattle.stream_model.specs.Stream.{extended_number}
 use Rattle.stream_model.specs.Decoder.{at_start, Settled}
-use Rattle.stream_model.specs.Window.{Window, Offer, Old, Drain, Kept, ahead, is_held, offer_ahead, offer, hold, make_due}
+use Rattle.stream_model.specs.Window.{Window, Offer, Behind, Again, Drain, Kept, ahead, is_held, offer_ahead, offer, hold, make_due}
 use Rattle.stream_model.specs.Receiver.{Receiver, drain, keep, offered}
 use Rattle.stream_model.specs.RunLaws.{fed, given_before}
 use Rattle.stream_model.proofs.CutBodies.{all_imply}
 use Rattle.stream_model.proofs.Bases.{below_base, floor-le-append, in_time-le-highest, not_true}
 use Rattle.stream_model.proofs.InTime.{in_time_stays}
 use Rattle.stream_model.proofs.RunStream.{fed-append}
-use Rattle.stream_model.proofs.WindowSteps.{num, held_at, mem, window_at, num_test, ahead_is, ahead_behind}
+use Rattle.stream_model.proofs.WindowSteps.{num, held_at, mem, window_at, num_test, ahead_is, ahead_behind, put, mem_put, all_put, insert_held}
 use Rattle.stream_model.proofs.WindowDrains.{items, items-append, items_same, fed_on, drains}
 use Rattle.stream_model.proofs.ArrivalSteps.{other_position, new_arrival, base_is, highest-append, old_position, old_base, new_count, old_count}
 
@@ -63,19 +63,20 @@ pub keep_holding : (number : ℕ) (dg : ℕ → Datagram) (end b a : ℕ) (was n
     → now a ≡ true → ((i : ℕ) → (a ≡ i → ⊥) → now i ≡ was i)
     → (q : ℕ) × (b ≤ q) × (now q ≡ false) × ((i : ℕ) → b ≤ i → i < q → now i ≡ true) × Holding number dg end q now (keep r (dg a)) × HasCounts (r.kept + 1) r (keep r (dg a))
 keep_holding number dg end b a was now r h few inside low is_number here other =
-    let held : hold r.window (extended_number (dg a)) (dg a) ≡ window_at number dg b 0 (a ∷ h.hs) =
-    ap (λ w. hold w (extended_number (dg a)) (dg a)) h.window ∙ ap (λ n. hold (window_at number dg b 0 h.hs) n (dg a)) is_number in
+    let near_all : AllByRecursion (λ i. (b ≤ i) × (i < 8388608)) h.hs = all_imply (λ i. (b ≤ i) × (i < end)) (λ i. (b ≤ i) × (i < 8388608)) h.hs (λ i t. (t.0, omega (arith, t.1, few))) h.all in
+    let held : hold r.window (extended_number (dg a)) (dg a) ≡ window_at number dg b 0 (put b a h.hs) =
+    ap (λ w. hold w (extended_number (dg a)) (dg a)) h.window ∙ (ap (λ n. hold (window_at number dg b 0 h.hs) n (dg a)) is_number ∙ ap (λ l. record { base = Some (num number b); due = 0; held = l }) (insert_held number dg b a h.hs low (omega (arith, inside, few)) near_all)) in
     let start = record r { window = hold r.window (extended_number (dg a)) (dg a); kept = r.kept + 1 } in
     let n = 2 * length start.window.held + 1 in
-    let size : length start.window.held ≡ length (a ∷ h.hs) = ap (λ (w : Window). length w.held) held ∙ length-map (a ∷ h.hs) (held_at number dg) in
-    let ran = drains n number dg start b 0 (a ∷ h.hs) end ((low, inside), h.all) (omega (arith, h.within)) few held (inl (omega (arith, size))) in
+    let size : length start.window.held ≡ length (put b a h.hs) = ap (λ (w : Window Datagram). length w.held) held ∙ length-map (put b a h.hs) (held_at number dg) in
+    let ran = drains n number dg start b 0 (put b a h.hs) end (all_put (λ i. (b ≤ i) × (i < end)) b a h.hs (low, inside) h.all) (omega (arith, h.within)) few held (inl (omega (arith, size))) in
     let q = ran.q in
     let up : b ≤ q = omega (arith, ran.low) in
-    let mine : (i : ℕ) → b ≤ i → mem (a ∷ h.hs) i ≡ now i = λ i l. elim (eqb_tells a i) [
+    let mine : (i : ℕ) → b ≤ i → mem (put b a h.hs) i ≡ now i = λ i l. mem_put b a h.hs i ∙ elim (eqb_tells a i) [
       | inl e ↦ rw e.0 (sym here ∙ ap now e.1)
       | inr e ↦ rw e.0 (h.same i l ∙ sym (other i e.1))
     ] in
-    let list : items (mem (a ∷ h.hs)) dg b (q - b) ≡ items now dg b (q - b) = items_same (mem (a ∷ h.hs)) now dg b (q - b) (λ i l m. mine i l) in
+    let list : items (mem (put b a h.hs)) dg b (q - b) ≡ items now dg b (q - b) = items_same (mem (put b a h.hs)) now dg b (q - b) (λ i l m. mine i l) in
     let before : items was dg 0 b ≡ items now dg 0 b = items_same was now dg 0 b (λ i l m. sym (other i (λ e. omega (arith, e, m, low)))) in
     let all = fed_further now dg b q up in
     let d : r.decoder ≡ (fed at_start (items now dg 0 b)).decoder = h.decoder ∙ ap (λ l. (fed at_start l).decoder) before in
@@ -104,7 +105,7 @@ pub due_holding : (number : ℕ) (dg : ℕ → Datagram) (end b u : ℕ) (there 
     → (q : ℕ) × (b + u ≤ q) × (there q ≡ false) × ((i : ℕ) → b + u ≤ i → i < q → there i ≡ true) × Holding number dg end q there (drain s) × HasCounts s.kept s (drain s)
 due_holding number dg end b u there r s h few room w dec pre =
     let n = 2 * length s.window.held + 1 in
-    let size : length s.window.held ≡ length h.hs = ap (λ (x : Window). length x.held) w ∙ length-map h.hs (held_at number dg) in
+    let size : length s.window.held ≡ length h.hs = ap (λ (x : Window Datagram). length x.held) w ∙ length-map h.hs (held_at number dg) in
     let ran = drains n number dg s b u h.hs end h.all room few w (inl (omega (arith, size))) in
     let q = ran.q in
     let up : b ≤ q = omega (arith, ran.low) in
@@ -138,7 +139,7 @@ held_mem number dg a (i ∷ hs) low small =
     ap (λ b. b || is_held (num number a) (map (held_at number dg) hs)) (num_test number i a small.0 low) ∙ ap (λ b. (i == a) || b) (held_mem number dg a hs low small.1)
 
 -- what the window answers to a position: behind it,
-offer_behind : (number : ℕ) (dg : ℕ → Datagram) (window b a : ℕ) (hs : List ℕ) → a < b → b < 8388608 → offer window (num number a) (window_at number dg b 0 hs) (Some (num number b)) ≡ Old
+offer_behind : (number : ℕ) (dg : ℕ → Datagram) (window b a : ℕ) (hs : List ℕ) → a < b → b < 8388608 → offer window (num number a) (window_at number dg b 0 hs) (Some (num number b)) ≡ Behind
 offer_behind number dg window b a hs less few =
     let far = ahead_behind number b a less few in
     let e : nat_le (2 ^ 23) (ahead (num number b) (num number a)) ≡ true = le-leb (2 ^ 23) (ahead (num number b) (num number a)) far in
@@ -154,12 +155,12 @@ offer_far number dg window b a hs low few far =
 
 -- and within it
 offer_near : (number : ℕ) (dg : ℕ → Datagram) (window b a : ℕ) (hs : List ℕ) → b ≤ a → a < 8388608 → a - b < window → AllByRecursion (λ i. i < 8388608) hs
-    → offer window (num number a) (window_at number dg b 0 hs) (Some (num number b)) ≡ (if mem hs a then Old else Kept)
+    → offer window (num number a) (window_at number dg b 0 hs) (Some (num number b)) ≡ (if mem hs a then Again else Kept)
 offer_near number dg window b a hs low few near small =
     let d : ahead (num number b) (num number a) ≡ a - b = ahead_is number b a low few in
     let e : nat_le (2 ^ 23) (a - b) ≡ false = lt-leb (2 ^ 23) (a - b) (omega arith) in
     let f : nat_le window (a - b) ≡ false = lt-leb window (a - b) near in
-    ap (λ k. offer_ahead window k (num number a) (map (held_at number dg) hs)) d ∙ (rw (e, f) (ap (λ (t : Bool). if t then Old else Kept) (held_mem number dg a hs few small)))
+    ap (λ k. offer_ahead window k (num number a) (map (held_at number dg) hs)) d ∙ (rw (e, f) (ap (λ (t : Bool). if t then Again else Kept) (held_mem number dg a hs few small)))
 
 -- what is known after an arrival
 abbrev pub Stepped : ℕ → (ℕ → Datagram) → ℕ → ℕ → List ℕ → Receiver → Receiver → Type 0
@@ -237,8 +238,8 @@ step_on number dg end window x xs a r h some few inside is_number count =
         | inl near ↦
             let near_is = asked ∙ offer_near number dg window b a h.hs low (omega (arith, inside, few)) near small in
             elim (either (mem h.hs a)) [
-              | inl t ↦ subst S (sym (near_is ∙ ap (λ (z : Bool). if z then Old else Kept) t)) (step_old number dg end window x xs a r h some count (inr (sym (h.same a low) ∙ t)))
-              | inr t ↦ subst S (sym (near_is ∙ ap (λ (z : Bool). if z then Old else Kept) t)) (step_kept number dg end window x xs a r h some few inside is_number count low near (sym (h.same a low) ∙ t))
+              | inl t ↦ subst S (sym (near_is ∙ ap (λ (z : Bool). if z then Again else Kept) t)) (step_old number dg end window x xs a r h some count (inr (sym (h.same a low) ∙ t)))
+              | inr t ↦ subst S (sym (near_is ∙ ap (λ (z : Bool). if z then Again else Kept) t)) (step_kept number dg end window x xs a r h some few inside is_number count low near (sym (h.same a low) ∙ t))
             ]
       ]
     ]

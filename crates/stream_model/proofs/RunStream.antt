@@ -127,7 +127,7 @@ pub record IsWhole (s : Sent) : Type 0 where
   pub bodies : AllByRecursion (IsBodyOf s) s.bodies
 
 -- it has a precinct
-some_place : (h : Head) (head : List ℕ) (places : List Place) → SpellsHead h head → IsPacketOrder h places → 1 ≤ length places
+pub some_place : (h : Head) (head : List ℕ) (places : List Place) → SpellsHead h head → IsPacketOrder h places → 1 ≤ length places
 some_place h head places is order =
     let c = header_has_components h head is in
     let some : 0 < length h.steps = omega (arith, c.some) in

@@ -60,17 +60,17 @@ fed_on_hand r x xs =
     ap (λ l. record r { decoder = (fed s.decoder xs).decoder; precincts = l }) (sym (append_assoc r.precincts s.precincts (fed s.decoder xs).precincts))
 
 -- one step of the draining
-drained_hand : (m : ℕ) (r : Receiver) (x : Datagram) (w : Window) → next r.window r.window.base ≡ Hand x w → drained (suc m) r ≡ drained m (followed (record r { window = w }) (decoded r.decoder x x.payload))
+pub drained_hand : (m : ℕ) (r : Receiver) (x : Datagram) (w : Window Datagram) → next r.window r.window.base ≡ Hand x w → drained (suc m) r ≡ drained m (followed (record r { window = w }) (decoded r.decoder x x.payload))
 unfolding drained
 drained_hand m r x w e = rw (e, drained) refl
 
 -- a gap drops the run
-drained_gap : (m : ℕ) (r : Receiver) (w : Window) → next r.window r.window.base ≡ Gap w → drained (suc m) r ≡ drained m (record r { window = w; decoder = take_gap r.decoder })
+pub drained_gap : (m g : ℕ) (r : Receiver) (w : Window Datagram) → next r.window r.window.base ≡ Gap g w → drained (suc m) r ≡ drained m (record r { window = w; decoder = take_gap r.decoder })
 unfolding drained
-drained_gap m r w e = rw (e, drained) refl
+drained_gap m g r w e = rw (e, drained) refl
 
 -- and with nothing left it ends
-drained_none : (m : ℕ) (r : Receiver) → next r.window r.window.base ≡ Nothing → drained m r ≡ r
+pub drained_none : (m : ℕ) (r : Receiver) → next r.window r.window.base ≡ Nothing → drained m r ≡ r
 unfolding drained
 drained_none zero r e = refl
 drained_none (suc m) r e = rw (e, drained) refl
@@ -200,13 +200,13 @@ drains zero number dg r p u hs end all within few is (inr (enough, inr z)) =
     let P : ℕ → Type 0 = λ k. Ran number dg r p k hs end (drained 0 r) in
     elim (either (mem hs p)) [
       | inl t ↦ absurd (let f = fewer_others p hs t in omega (arith, f, enough))
-      | inr t ↦ subst P (sym z) (ran_none 0 number dg r p hs end all (omega arith) now t (ap (λ (w : Window). next w w.base) now ∙ next_none number dg p hs (omega arith) small t))
+      | inr t ↦ subst P (sym z) (ran_none 0 number dg r p hs end all (omega arith) now t (ap (λ (w : Window Datagram). next w w.base) now ∙ next_none number dg p hs (omega arith) small t))
     ]
 drains (suc m) number dg r p u hs end all within few is enough =
     let small : AllByRecursion (λ i. i < 8388608) hs = all_imply (λ i. (p ≤ i) × (i < end)) (λ i. i < 8388608) hs (λ i h. omega (arith, h.1, few)) all in
     let high : AllByRecursion (λ i. p ≤ i) hs = all_imply (λ i. (p ≤ i) × (i < end)) (λ i. p ≤ i) hs (λ i h. h.0) all in
     let low : p < 8388608 = omega arith in
-    let here = ap (λ (w : Window). next w w.base) is in
+    let here = ap (λ (w : Window Datagram). next w w.base) is in
     let most : 2 * length hs ≤ suc m = elim enough [ inl e ↦ omega (arith, e) | inr e ↦ e.0 ] in
     let R : Receiver → Type 0 = λ x. Ran number dg r p u hs end x in
     elim (either (mem hs p)) [
@@ -222,7 +222,7 @@ drains (suc m) number dg r p u hs end all within few is enough =
             let z : u ≡ 0 = omega arith in
             let now : r.window ≡ window_at number dg p 0 hs = is ∙ ap (λ k. window_at number dg p k hs) z in
             let P : ℕ → Type 0 = λ k. Ran number dg r p k hs end (drained (suc m) r) in
-            subst P (sym z) (ran_none (suc m) number dg r p hs end all (omega arith) now t (ap (λ (w : Window). next w w.base) now ∙ next_none number dg p hs low small t))
+            subst P (sym z) (ran_none (suc m) number dg r p hs end all (omega arith) now t (ap (λ (w : Window Datagram). next w w.base) now ∙ next_none number dg p hs low small t))
         | inl some ↦
             let g = gap_of p u hs in
             let w = window_at number dg (p + g) (u - g) hs in
@@ -236,6 +236,6 @@ drains (suc m) number dg r p u hs end all within few is enough =
             ] in
             let ends : (mem hs (p + g) ≡ true) ⊎ (u - g ≡ 0) = elim (gap_ends p u hs high) [ inl e ↦ inr (omega (arith, e)) | inr e ↦ inl e ] in
             let ran = drains m number dg next_r (p + g) (u - g) hs end (all_far p g end hs free all) (omega (arith, within, g_most)) few refl (inr (room, ends)) in
-            subst R (sym (drained_gap m r w (here ∙ next_gap number dg p u hs low small high t some))) (ran_gap number dg r p u g hs end (drained m next_r) (gap_some p u hs some high t) g_most free ran)
+            subst R (sym (drained_gap m g r w (here ∙ next_gap number dg p u hs low small high t some))) (ran_gap number dg r p u g hs end (drained m next_r) (gap_some p u hs some high t) g_most free ran)
       ]
     ]

@@ -1,5 +1,5 @@
 -- What the window hands on next, where it holds datagrams of a stream by their positions.
-use Rattle.std.proofs.Common.{◌≡◌, ◌≢◌, ◌⊎◌, ◌<◌, ◌≤◌, ◌+◌, ◌-◌, ◌%◌, ◌^◌, ◌==◌, ◌||◌, ℕ, suc, min, Bool, true, false, not, List, [], ◌∷◌, map, filter, length, Option, Some, None, refl, sym, ◌∙◌, ap, inl, inr, arith, if◌then◌else◌}
+use Rattle.std.proofs.Common.{◌≡◌, ◌≢◌, ◌⊎◌, ◌<◌, ◌≤◌, ◌+◌, ◌-◌, ◌%◌, ◌^◌, ◌==◌, ◌||◌, ℕ, suc, min, Bool, true, false, not, nat_lt, List, [], ◌∷◌, map, filter, length, Option, Some, None, refl, sym, ◌∙◌, ap, inl, inr, arith, if◌then◌else◌}
 use Rattle.std.specs.Prelude.{find}
 use Rattle.std.specs.List.{AllByRecursion, list_any, fold}
 use Rattle.std.proofs.lemmas.Bool.{cases_lt, eq-eqb}
@@ -7,22 +7,22 @@ use Rattle.std.proofs.lemmas.Bool.Decides.{eqb_tells}
 use Rattle.wire_model.specs.Datagram.{Datagram}
 use Rattle.codestream_model.proofs.TreeLemmas.{either, equal_number}
 use Rattle.stream_model.proofs.Thinned.{all-filter}
-use Rattle.stream_model.specs.Window.{Window, Held, ahead, gap_length, Hand, Gap, Nothing, moved, next_at, next}
+use Rattle.stream_model.specs.Window.{Window, Held, insert, ahead, gap_length, Hand, Gap, Nothing, moved, next_at, next}
 
 -- the extended number of a position
 abbrev pub num : ℕ → ℕ → ℕ
 num number i = (number + i) % 2 ^ 24
 
 -- a datagram that is held by its position
-abbrev pub held_at : ℕ → (ℕ → Datagram) → ℕ → Held
-held_at number dg i = record { number = num number i; datagram = dg i }
+abbrev pub held_at : ℕ → (ℕ → Datagram) → ℕ → Held Datagram
+held_at number dg i = record { number = num number i; item = dg i }
 
 -- a position is among these
 abbrev pub mem : List ℕ → ℕ → Bool
 mem hs i = list_any (λ h. h == i) hs
 
 -- the window whose next position is this one, with so many that are due, and with these that are held
-abbrev pub window_at : ℕ → (ℕ → Datagram) → ℕ → ℕ → List ℕ → Window
+abbrev pub window_at : ℕ → (ℕ → Datagram) → ℕ → ℕ → List ℕ → Window Datagram
 window_at number dg p u hs = record { base = Some (num number p); due = u; held = map (held_at number dg) hs }
 
 -- two positions of a stream have two numbers
@@ -45,7 +45,7 @@ pub ahead_behind : (number p i : ℕ) → i < p → p < 8388608 → 8388608 ≤ 
 ahead_behind number p i low high = omega arith
 
 -- what is held at a position
-chosen : (number : ℕ) (dg : ℕ → Datagram) (i p : ℕ) (more : Option Held) (b c : Bool) → (i == p) ≡ b → c ≡ b → (if c then Some (held_at number dg i) else more) ≡ (if b then Some (held_at number dg p) else more)
+chosen : (number : ℕ) (dg : ℕ → Datagram) (i p : ℕ) (more : Option (Held Datagram)) (b c : Bool) → (i == p) ≡ b → c ≡ b → (if c then Some (held_at number dg i) else more) ≡ (if b then Some (held_at number dg p) else more)
 chosen number dg i p more true c e f = let s : i ≡ p = equal_number i p e in rw (f, s) refl
 chosen number dg i p more false c e f = rw f refl
 
@@ -67,7 +67,7 @@ abbrev pub others : ℕ → List ℕ → List ℕ
 others p hs = filter (λ i. not (i == p)) hs
 
 -- each stays or goes by its number
-left_by : (number : ℕ) (dg : ℕ → Datagram) (i : ℕ) (hs : List ℕ) (held : List Held) (b c : Bool) → b ≡ c → held ≡ map (held_at number dg) hs → (if not b then held_at number dg i ∷ held else held) ≡ map (held_at number dg) (if not c then i ∷ hs else hs)
+left_by : (number : ℕ) (dg : ℕ → Datagram) (i : ℕ) (hs : List ℕ) (held : List (Held Datagram)) (b c : Bool) → b ≡ c → held ≡ map (held_at number dg) hs → (if not b then held_at number dg i ∷ held else held) ≡ map (held_at number dg) (if not c then i ∷ hs else hs)
 left_by number dg i hs held true true e f = f
 left_by number dg i hs held false false e f = ap (λ l. held_at number dg i ∷ l) f
 left_by number dg i hs held true false e f = absurd (cc)
@@ -186,7 +186,7 @@ gap_ends p u (i ∷ hs) high = elim (gap_ends p (min u (i - p)) hs high.1) [
 
 -- a gap is handed on
 pub next_gap : (number : ℕ) (dg : ℕ → Datagram) (p u : ℕ) (hs : List ℕ) → p < 8388608 → AllByRecursion (λ i. i < 8388608) hs → AllByRecursion (λ i. p ≤ i) hs → mem hs p ≡ false → 1 ≤ u
-    → next (window_at number dg p u hs) (Some (num number p)) ≡ Gap (window_at number dg (p + gap_of p u hs) (u - gap_of p u hs) hs)
+    → next (window_at number dg p u hs) (Some (num number p)) ≡ Gap (gap_of p u hs) (window_at number dg (p + gap_of p u hs) (u - gap_of p u hs) hs)
 next_gap number dg p u hs low small high t some =
     let w = window_at number dg p u hs in
     let found : find (λ h. h.number == num number p) (map (held_at number dg) hs) ≡ None = find_held number dg p hs low small ∙ rw t refl in
@@ -194,6 +194,43 @@ next_gap number dg p u hs low small high t some =
     let g = gap_of p u hs in
     let step : (num number p + g) % 2 ^ 24 ≡ num number (p + g) = (let m : ((number + p) % 16777216 + g) % 16777216 ≡ (number + (p + g)) % 16777216 = omega arith in m) in
     ap (next_at (num number p) w) found
-    ∙ (ap (λ (b : Bool). if b then Nothing else Gap (moved (num number p) (gap_length (num number p) w) w)) due
-    ∙ (ap (λ n. Gap (moved (num number p) n w)) (gaps_are number dg p u hs small high)
-    ∙ ap (λ n. Gap (record { base = Some n; due = u - g; held = map (held_at number dg) hs })) step))
+    ∙ (ap (λ (b : Bool). if b then Nothing else Gap (gap_length (num number p) w) (moved (num number p) (gap_length (num number p) w) w)) due
+    ∙ (ap (λ n. Gap n (moved (num number p) n w)) (gaps_are number dg p u hs small high)
+    ∙ ap (λ n. Gap g (record { base = Some n; due = u - g; held = map (held_at number dg) hs })) step))
+
+-- a position takes its place in the order from one on
+abbrev pub put : ℕ → ℕ → List ℕ → List ℕ
+put p a [] = a ∷ []
+put p a (i ∷ hs) = if nat_lt (a - p) (i - p) then a ∷ i ∷ hs else i ∷ put p a hs
+
+-- as its datagram does
+pub insert_held : (number : ℕ) (dg : ℕ → Datagram) (p a : ℕ) (hs : List ℕ) → p ≤ a → a < 8388608 → AllByRecursion (λ i. (p ≤ i) × (i < 8388608)) hs → insert (num number p) (held_at number dg a) (map (held_at number dg) hs) ≡ map (held_at number dg) (put p a hs)
+insert_held number dg p a [] low few all = refl
+insert_held number dg p a (i ∷ hs) low few all =
+    let e = ahead_is number p a low few in
+    let f = ahead_is number p i all.0.0 all.0.1 in
+    let rest = insert_held number dg p a hs low few all.1 in
+    let H : Bool → Type 0 = λ b. (if b then held_at number dg a ∷ held_at number dg i ∷ map (held_at number dg) hs else held_at number dg i ∷ insert (num number p) (held_at number dg a) (map (held_at number dg) hs)) ≡ map (held_at number dg) (if b then a ∷ i ∷ hs else i ∷ put p a hs) in
+    ap (λ b. if b then held_at number dg a ∷ held_at number dg i ∷ map (held_at number dg) hs else held_at number dg i ∷ insert (num number p) (held_at number dg a) (map (held_at number dg) hs)) (ap (λ x. nat_lt x (ahead (num number p) (num number i))) e ∙ ap (λ x. nat_lt (a - p) x) f)
+    ∙ elim (nat_lt (a - p) (i - p)) as H [ true ↦ refl | false ↦ ap (λ l. held_at number dg i ∷ l) rest ]
+
+-- it is among them from then on
+mem_swap : (b c d : Bool) → (b || (c || d)) ≡ (c || (b || d))
+mem_swap true true d = refl
+mem_swap true false d = refl
+mem_swap false c d = refl
+
+pub mem_put : (p a : ℕ) (hs : List ℕ) (i : ℕ) → mem (put p a hs) i ≡ ((a == i) || mem hs i)
+mem_put p a [] i = refl
+mem_put p a (h ∷ hs) i = elim (nat_lt (a - p) (h - p)) as (λ b. mem (if b then a ∷ h ∷ hs else h ∷ put p a hs) i ≡ ((a == i) || ((h == i) || mem hs i))) [
+  | true ↦ refl
+  | false ↦ ap (λ b. (h == i) || b) (mem_put p a hs i) ∙ mem_swap (h == i) (a == i) (mem hs i)
+]
+
+-- what holds of it and of all others holds of all
+pub all_put : (P : ℕ → Type 0) (p a : ℕ) (hs : List ℕ) → P a → AllByRecursion P hs → AllByRecursion P (put p a hs)
+all_put P p a [] h all = (h, tt)
+all_put P p a (i ∷ hs) h all = elim (nat_lt (a - p) (i - p)) as (λ b. AllByRecursion P (if b then a ∷ i ∷ hs else i ∷ put p a hs)) [
+  | true ↦ (h, all)
+  | false ↦ (all.0, all_put P p a hs h all.1)
+]

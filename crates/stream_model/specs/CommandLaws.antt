@@ -8,7 +8,7 @@ use Rattle.codestream_model.specs.PacketOrder.{pid, packet_order}
 use Rattle.codestream_model.specs.Packet.{Content, SpellsPacket}
 use Rattle.codestream_model.specs.Codestream.{WalkRefusal, SpellsCodestream, IsPsotRight, BeginsCodestream, IsInput, Faults, joined}
 use Rattle.stream_model.specs.Report.{Precinct, lines}
-use Rattle.stream_model.specs.Commands.{Parse, counted, made}
+use Rattle.stream_model.specs.Commands.{counted, parse_lines}
 
 -- the precincts of which packets say this, with the stamp of their codestream
 abbrev pub precincts_of : Head → ℕ → List Place → List Content → List Precinct
@@ -69,7 +69,7 @@ abbrev pub ParseWritesWholePackets : Type 0
 ParseWritesWholePackets =
     (stamp step : ℕ) (read : List ℕ) (ended : Bool) (said : List Said) (codestreams : List (List ℕ)) (rest : List ℕ) (xs : List Precinct)
     → stamp < 2 ^ 32 → IsBytes read → counted read ≡ joined codestreams ++ rest → AreCodestreams said codestreams → ArePrecinctsBehind stamp step (length codestreams) rest xs
-    → made (Parse stamp step) read ended ≡ lines (precincts_from stamp step 0 said ++ xs)
+    → parse_lines stamp step read ≡ lines (precincts_from stamp step 0 said ++ xs)
 
 -- and all bytes that it may have read are so: whole codestreams, and behind them whole packets up to the first that isn't there
 abbrev pub ReadsHaveWholePackets : Type 0
@@ -83,7 +83,7 @@ abbrev pub ParseWritesInputs : Type 0
 ParseWritesInputs =
     (stamp step : ℕ) (input : List ℕ) (ended : Bool) (said : List Said) (codestreams : List (List ℕ))
     → stamp < 2 ^ 32 → IsBytes input → IsInput input codestreams → AreCodestreams said codestreams
-    → made (Parse stamp step) input ended ≡ lines (precincts_from stamp step 0 said)
+    → parse_lines stamp step input ≡ lines (precincts_from stamp step 0 said)
 
 -- of an input with a fault it writes the lines of all packets of the whole codestreams before it, and those of the whole packets of
 -- the codestream in which it is
@@ -93,4 +93,4 @@ ParseWritesUpToFault =
     → stamp < 2 ^ 32 → IsBytes input
     → (said : List Said) × (rest : List ℕ) × (xs : List Precinct) × AreCodestreams said f.codestreams
     × (counted input ≡ joined f.codestreams ++ rest) × ArePrecinctsBehind stamp step (length f.codestreams) rest xs
-    × (made (Parse stamp step) input ended ≡ lines (precincts_from stamp step 0 said ++ xs))
+    × (parse_lines stamp step input ≡ lines (precincts_from stamp step 0 said ++ xs))

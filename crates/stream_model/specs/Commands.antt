@@ -1,4 +1,4 @@
--- What each command has written once it has read bytes, and whether it has met the input's end.
+-- What `thin`, `parse` and `report` have written once they have read bytes.
 use Rattle.std.specs.Prelude.{◌+◌, ◌-◌, ◌%◌, ◌^◌, ◌==◌, ◌&&◌, ◌||◌, ◌++◌, ℕ, zero, suc, Bool, true, false, List, [], ◌∷◌, length, min, take, drop, slice_index, nat_le, Result, Ok, Err, if◌then◌else◌}
 use Rattle.codestream_model.specs.Values.{Head, Place}
 use Rattle.codestream_model.specs.MainHeaderReading.{head_of, Refused}
@@ -9,13 +9,7 @@ use Rattle.stream_model.specs.Report.{Precinct, lines, end_line}
 use Rattle.stream_model.specs.Decoder.{found_packet, Whole, Part, Other}
 use Rattle.stream_model.specs.Receiver.{Pick, Receiver, received, flushed, counts_of}
 
--- what the program is asked to do
-pub data Command : Type 0 where
-  Thin : ℕ → Command
-  Parse : ℕ → ℕ → Command
-  Report : Pick → Command
-
--- of an input no more than so many bytes count
+-- At most 1,099,511,627,776 bytes of an input count.
 abbrev pub counted : List ℕ → List ℕ
 counted read = take 1099511627776 read
 
@@ -68,8 +62,14 @@ abbrev pub reported : Receiver → Bool → List ℕ
 reported r false = lines r.precincts
 reported r true = lines (flushed r).precincts ++ end_line (counts_of (flushed r))
 
--- what a command has written once it has read these bytes, and met the input's end or not
-abbrev pub made : Command → List ℕ → Bool → List ℕ
-made (Thin limit) read ended = framing (kept limit (whole_frames (counted read)))
-made (Parse stamp step) read ended = lines (parsed (min 65536 (length read)) stamp step (counted read))
-made (Report pick) read ended = reported (received pick (whole_frames (counted read))) ended
+-- What `thin` has written of a capture of which these bytes were read: the frames that it keeps, unchanged and in order.
+abbrev pub thin_output : ℕ → List ℕ → List ℕ
+thin_output limit read = framing (kept limit (whole_frames (counted read)))
+
+-- What `parse` has written of codestreams of which these bytes were read: the lines of the whole packets, up to the first fault.
+abbrev pub parse_lines : ℕ → ℕ → List ℕ → List ℕ
+parse_lines stamp step read = lines (parsed (min 65536 (length read)) stamp step (counted read))
+
+-- What `report` has written of a capture of which these bytes were read, before its end or at it.
+abbrev pub report_lines : Pick → List ℕ → Bool → List ℕ
+report_lines pick read ended = reported (received pick (whole_frames (counted read))) ended

@@ -1,6 +1,6 @@
 -- The rules of the decoder: how bytes that come in order become packets again, from a mark on. Codestreams that weren't
 -- forged need none of these rules to be understood: they say what is made of forged ones too.
-use Rattle.std.specs.Prelude.{◌+◌, ◌-◌, ◌==◌, ◌&&◌, ◌++◌, ℕ, zero, suc, Bool, List, [], ◌∷◌, length, take, drop, nat_le, nat_lt, find, Option, Some, None, Result, Ok, Err, if◌then◌else◌}
+use Rattle.std.specs.Prelude.{◌+◌, ◌-◌, ◌^◌, ◌==◌, ◌&&◌, ◌++◌, ℕ, min, zero, suc, Bool, List, [], ◌∷◌, length, take, drop, nat_le, nat_lt, find, Option, Some, None, Result, Ok, Err, if◌then◌else◌}
 use Rattle.codestream_model.specs.Values.{Head, Place, Block}
 use Rattle.codestream_model.specs.MainHeaderReading.{head_of, Refused}
 use Rattle.codestream_model.specs.Precincts.{grids}
@@ -33,6 +33,10 @@ pub record Decoder : Type 0 where
   pub disagreed : ℕ
   pub broken : ℕ
 
+-- A count plus one; it stays at 2^64 - 1 once it is there.
+abbrev pub one_more : ℕ → ℕ
+one_more n = min (n + 1) (2 ^ 64 - 1)
+
 abbrev pub at_start : Decoder
 at_start = record { current = None; run = None; bytes = []; mark = None; unsupported = 0; disagreed = 0; broken = 0 }
 
@@ -43,18 +47,18 @@ without_head d = record d { current = None; run = None; bytes = []; mark = None 
 -- A Main: bytes that are exactly one accepted main header become the one in force, and a run begins at its first precinct;
 -- any others leave none.
 abbrev pub take_header : Decoder → ℕ → ℕ → Result Head Refused → Decoder
-take_header d stamp size (Err why) = record (without_head d) { unsupported = d.unsupported + 1 }
+take_header d stamp size (Err why) = record (without_head d) { unsupported = one_more d.unsupported }
 take_header d stamp size (Ok h) =
     if h.length == size
     then record d { current = Some (record { stamp = stamp; head = h; order = packet_order h }); run = Some (packet_order h); bytes = []; mark = None }
-    else record (without_head d) { unsupported = d.unsupported + 1 }
+    else record (without_head d) { unsupported = one_more d.unsupported }
 
 abbrev pub take_main : Decoder → ℕ → List ℕ → Decoder
 take_main d stamp bytes = take_header d stamp (length bytes) (head_of bytes)
 
 -- the mark of a Body whose bytes follow so many others
 abbrev pub set_mark : Decoder → ℕ → ℕ → Option Place → Decoder
-set_mark d before pos None = record d { disagreed = d.disagreed + 1 }
+set_mark d before pos None = record d { disagreed = one_more d.disagreed }
 set_mark d before pos (Some place) = record d { mark = Some (record { at = before + pos; place = place }) }
 
 -- the bytes of a Body join the run; without one they stand alone
@@ -115,7 +119,7 @@ begin_at d c m = record d { run = Some (from_place m.place c.order); bytes = dro
 
 -- .. because what stands before it disagrees with it
 abbrev pub begin_instead : Decoder → Current → Mark → Decoder
-begin_instead d c m = record (begin_at d c m) { disagreed = d.disagreed + 1 }
+begin_instead d c m = record (begin_at d c m) { disagreed = one_more d.disagreed }
 
 -- the mark as it stands when so many bytes are gone
 abbrev pub mark_behind : ℕ → Option Mark → Option Mark
@@ -135,7 +139,7 @@ release d c p later blocks header size = Releases
 
 -- what is refused as a packet drops the run; a mark that is left begins a new one
 abbrev pub drop_run : Decoder → Decoder
-drop_run d = record d { run = None; broken = d.broken + 1 }
+drop_run d = record d { run = None; broken = one_more d.broken }
 
 -- with no run: a mark begins one, and without a mark the bytes are dropped
 abbrev pub rule_without_run : Decoder → Current → Option Mark → Ruling

@@ -5,7 +5,7 @@ use Rattle.wire_model.specs.Datagram.{Datagram, datagram_of, is_well_formed}
 use Rattle.stream_model.specs.Stream.{extended_number}
 use Rattle.stream_model.specs.Report.{Precinct, Counts}
 use Rattle.stream_model.specs.Decoder.{Decoder, at_start, take_main, take_body, take_gap, settled}
-use Rattle.stream_model.specs.Window.{Window, empty, offer, Offer, Old, Drain, Kept, hold, make_due, make_all_due, next, Hand, Gap, Nothing}
+use Rattle.stream_model.specs.Window.{Window, empty, offer, Offer, Behind, Again, Drain, Kept, hold, make_due, make_all_due, next, Hand, Gap, Nothing}
 
 -- the payload type and the source that are asked for, and the window's size
 pub record Pick : Type 0 where
@@ -16,7 +16,7 @@ pub record Pick : Type 0 where
 -- the source that is picked by now, the window, the decoder, the precincts given so far, and what was counted
 pub record Receiver : Type 0 where
   pub source : Option ℕ
-  pub window : Window
+  pub window : Window Datagram
   pub decoder : Decoder
   pub precincts : List Precinct
   pub kept : ℕ
@@ -40,7 +40,7 @@ unfoldable pub drained : ℕ → Receiver → Receiver
 drained zero r = r
 drained (suc n) r = elim (next r.window r.window.base) [
   | Hand x w ↦ drained n (followed (record r { window = w }) (decoded r.decoder x x.payload))
-  | Gap w ↦ drained n (record r { window = w; decoder = take_gap r.decoder })
+  | Gap count w ↦ drained n (record r { window = w; decoder = take_gap r.decoder })
   | Nothing ↦ r
 ]
 
@@ -55,7 +55,8 @@ keep r x = drain (record r { window = hold r.window (extended_number x) x; kept 
 -- A datagram that is behind the base or held already is old. One that is too far ahead drains the window first, and is then
 -- kept.
 abbrev pub offered : Receiver → Datagram → Offer → Receiver
-offered r x Old = record r { old = r.old + 1 }
+offered r x Behind = record r { old = r.old + 1 }
+offered r x Again = record r { old = r.old + 1 }
 offered r x (Drain n) = keep (drain (record r { window = make_due n r.window })) x
 offered r x Kept = keep r x
 

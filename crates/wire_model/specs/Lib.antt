@@ -7,4 +7,5 @@ pub mod Payload
 pub mod PayloadReading
 pub mod Datagram
 pub mod Thinning
+pub mod Link
 pub mod Laws

@@ -1,0 +1,3 @@
+pub mod Tales
+pub mod Settling
+pub mod WorkedTales

@@ -1,0 +1,5 @@
+use Rattle.stream_model.proofs.ThinnedReports.{thinned_is_counted}
+use Rattle.stream_model.proofs.thinned_laws.thinned_is_counted.Goals as goal
+
+pub returns : goal.returns
+returns c = thinned_is_counted

@@ -1,0 +1,5 @@
+use Rattle.stream_model.proofs.ThinnedCuts.{thinned_is_reached}
+use Rattle.stream_model.proofs.thinned_laws.thinned_is_reached.Goals as goal
+
+pub returns : goal.returns
+returns c = thinned_is_reached
