@@ -1,8 +1,8 @@
 //! The fixed header of an RTP datagram with its optional parts: the CSRC list, the extension and
 //! the padding (RFC 3550 section 5.1).
-ghost use Rattle.std.specs.Prelude.{◌≡◌, ◌≤◌, ◌+◌, ◌↔◌, ℕ, List, length, take, slice_range, nat_le, if◌then◌else◌, IfOk, Ok, Err};
+ghost use Rattle.std.specs.Prelude.{◌≡◌, ◌≤◌, ◌<◌, ◌+◌, ◌↔◌, false, ℕ, List, length, take, slice_range, nat_le, if◌then◌else◌, IfOk, Ok, Err};
 ghost use Rattle.wire_model.specs.Bytes.{two_at, four_at};
-ghost use Rattle.wire_model.specs.Rtp.{RtpFields, IsRtp, IsShortOfRtp, IsOtherVersion, IsBadlyPadded, header_length};
+ghost use Rattle.wire_model.specs.Rtp.{RtpFields, fixed_header, IsRtp, IsShortOfRtp, IsOtherVersion, IsBadlyPadded, header_length};
 ghost use Rattle.wire_model.specs.RtpReading.{is_padding_sound, payload_end};
 ghost use Rattle.rtp_header.specs.Reading.{fields_of, read_as, judged};
 
@@ -64,6 +64,28 @@ pub fn read_rtp(bytes: &[u8]) -> Result<Rtp, RtpFault>
     ensures padding { (result ≡ Err RtpFault.Padding) ↔ IsBadlyPadded bytes.now }
 {
     judge(bytes)
+}
+
+/// Writes the fixed header of a datagram without CSRC list, extension and padding (RFC 3550 section 5.1). `kind` is
+/// below 128; the range of the payload isn't looked at.
+pub fn write_rtp(rtp: &Rtp, buf: &mut [u8; 12])
+    requires { rtp.now.kind < 128 }
+    ensures { buf.new ≡ fixed_header (fields_of rtp.now) false false 0 }
+{
+    *buf = [
+        VERSION * 64,
+        u8::from(rtp.marker) * 128 + rtp.kind,
+        (rtp.number / 256) as u8,
+        (rtp.number % 256) as u8,
+        (rtp.stamp / 16_777_216) as u8,
+        (rtp.stamp / 65_536 % 256) as u8,
+        (rtp.stamp / 256 % 256) as u8,
+        (rtp.stamp % 256) as u8,
+        (rtp.source / 16_777_216) as u8,
+        (rtp.source / 65_536 % 256) as u8,
+        (rtp.source / 256 % 256) as u8,
+        (rtp.source % 256) as u8,
+    ];
 }
 
 /// The first fault in the order of judging, or the values at their places.

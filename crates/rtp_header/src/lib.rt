@@ -4,4 +4,7 @@
 
 mod header;
 
-pub use header::{Rtp, RtpFault, read_rtp};
+pub use header::{Rtp, RtpFault, read_rtp, write_rtp};
+
+#[cfg(test)]
+mod tests;

@@ -23,3 +23,7 @@ body_head_of h = record { res = h.res; eseq = h.eseq; ordb = h.ordb; pos = h.pos
 abbrev pub read_as : PayloadFields → ℕ → Payload × ℕ
 read_as (MainValues h) start = (Main (main_head_of h), start)
 read_as (BodyValues h) start = (Body (body_head_of h), start)
+
+-- A Body header of the program as the values of the definitions.
+abbrev pub values_of : BodyHead → BodyFields
+values_of h = record { res = h.res; eseq = h.eseq; ordb = h.ordb; pos = h.pos; pid = h.pid }

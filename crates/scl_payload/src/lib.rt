@@ -4,9 +4,11 @@
 
 mod head;
 mod reading;
+mod writing;
 
 pub use head::{BodyHead, MainHead, Payload, PayloadFault};
 pub use reading::read_payload;
+pub use writing::{ahead_of, extended, resolution_code, write_body, write_main};
 
 #[cfg(test)]
 mod tests;

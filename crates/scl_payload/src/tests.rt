@@ -58,3 +58,52 @@ fn headers_are_read_by_their_bits(rt: HostRuntime) {
         assert_eq!(rt; read_payload(bytes), *want, "in row {at}");
     }
 }
+
+#[test]
+fn headers_are_written_by_their_bits(rt: HostRuntime) {
+    let cases: [(u8, u8, bool, u16, u32, [u8; 8]); 4] = [
+        (7, 0, true, 0, 0, [0x07, 0x80, 0, 0, 0, 0, 0, 0]),
+        (7, 0, true, 1, 1, [0x07, 0x80, 0, 0, 0, 0x10, 0, 0x01]),
+        (2, 9, false, 0, 0, [0x02, 0, 0, 0x09, 0, 0, 0, 0]),
+        (
+            7,
+            255,
+            true,
+            4095,
+            1_048_575,
+            [0x07, 0x80, 0, 0xFF, 0xFF, 0xFF, 0xFF, 0xFF],
+        ),
+    ];
+    for (at, (res, eseq, ordb, pos, pid, bytes)) in cases.iter().enumerate() {
+        let head = BodyHead {
+            res: *res % 8,
+            eseq: *eseq,
+            ordb: *ordb,
+            pos: *pos % 4096,
+            pid: *pid % 1_048_576,
+        };
+        let mut buf = [0u8; 8];
+        write_body(&head, &mut buf);
+        assert_eq!(rt; buf, *bytes, "in row {at}");
+    }
+    let mut buf = [0u8; 8];
+    write_main(9, 4, &mut buf);
+    assert_eq!(rt; buf, [0xC4, 0, 0, 9, 0, 0, 0, 0]);
+}
+
+#[test]
+fn numbers_are_counted_modulo_two_to_the_24(rt: HostRuntime) {
+    assert_eq!(rt; extended(0xFF, 0xFFFE), 0xFF_FFFE);
+    assert_eq!(rt; ahead_of(0xFF_FFFE, 1), Some(3));
+    assert_eq!(rt; ahead_of(5, 8_388_612), Some(8_388_607));
+    assert_eq!(rt; ahead_of(5, 8_388_613), None);
+    assert_eq!(rt; ahead_of(5, 4), None);
+}
+
+#[test]
+fn resolutions_count_down_from_seven(rt: HostRuntime) {
+    assert_eq!(rt; resolution_code(5, 5), 7);
+    assert_eq!(rt; resolution_code(0, 5), 2);
+    assert_eq!(rt; resolution_code(0, 15), 0);
+    assert_eq!(rt; resolution_code(9, 15), 1);
+}
