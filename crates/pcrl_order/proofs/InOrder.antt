@@ -4,7 +4,7 @@ use Rattle.std.specs.List.{AllByRecursion}
 use Rattle.std.specs.List.Sorted.{IsPermutation, IsSorted}
 use Rattle.std.proofs.lemmas.List.Sorted.{IsPermutation-sym, Contains-permutation}
 use Rattle.std.specs.Ordering.{ordering_then}
-use Rattle.std.proofs.lemmas.Bool.{ltb-false, eqb-true, eqb-false}
+use Rattle.std.proofs.lemmas.Bool.{ltb-true, ltb-false, eqb-true, eqb-false}
 use Rattle.std.proofs.lemmas.List.Elements.{All-weaker}
 use Rattle.codestream_model.specs.HeadLimits.{IsWithinLimits, IsStep}
 use Rattle.codestream_model.specs.Values.{Head, Place}
@@ -49,12 +49,34 @@ first_then x y xs ys o rest e = elim (not_less y x o e) [
 ]
 
 -- one that the next isn't less than comes before it, or has its numbers
-up_to : (a b : Anchored) → is_lt (by_fields b a) ≡ false → IsUpTo a b
+pub up_to : (a b : Anchored) → is_lt (by_fields b a) ≡ false → IsUpTo a b
 up_to a b e =
     first_then a.y b.y (a.x ∷ a.c ∷ a.r ∷ []) (b.x ∷ b.c ∷ b.r ∷ []) _
     (first_then a.x b.x (a.c ∷ a.r ∷ []) (b.c ∷ b.r ∷ []) _
     (first_then a.c b.c (a.r ∷ []) (b.r ∷ []) _
     (first_then a.r b.r [] [] (nat_cmp b.k a.k) (λ k. inr refl)))) e
+
+-- what is less by a number and then by an order is less, or as great and less by that order
+is_less : (m n : ℕ) (o : Ordering) → is_lt (ordering_then (nat_cmp m n) o) ≡ true → (m < n) ⊎ ((m ≡ n) × (is_lt o ≡ true))
+is_less m n o e = by_tests (ltb m n) (eqb m n) refl refl e where
+  by_tests : (less same : Bool) → ltb m n ≡ less → eqb m n ≡ same → is_lt (ordering_then (if less then Less else (if same then Equal else Greater)) o) ≡ true → (m < n) ⊎ ((m ≡ n) × (is_lt o ≡ true))
+  by_tests true same l s e = inl (ltb-true m n l)
+  by_tests false true l s e = inr (eqb-true m n s, e)
+  by_tests false false l s e = absurd (cc)
+
+less_then : (x y : ℕ) (xs ys : List ℕ) (o : Ordering) → (is_lt o ≡ true → IsBefore xs ys ⊎ (xs ≡ ys)) → is_lt (ordering_then (nat_cmp x y) o) ≡ true → IsBefore (x ∷ xs) (y ∷ ys) ⊎ (x ∷ xs ≡ y ∷ ys)
+less_then x y xs ys o rest e = elim (is_less x y o e) [
+  | inl before ↦ inl (inl before)
+  | inr same ↦ same_first x y xs ys same.0 (rest same.1)
+]
+
+-- one that is less than another comes before it, or has its numbers
+pub less_up_to : (a b : Anchored) → is_lt (by_fields a b) ≡ true → IsUpTo a b
+less_up_to a b e =
+    less_then a.y b.y (a.x ∷ a.c ∷ a.r ∷ []) (b.x ∷ b.c ∷ b.r ∷ []) _
+    (less_then a.x b.x (a.c ∷ a.r ∷ []) (b.c ∷ b.r ∷ []) _
+    (less_then a.c b.c (a.r ∷ []) (b.r ∷ []) _
+    (less_then a.r b.r [] [] (nat_cmp a.k b.k) (λ k. inr refl)))) e
 
 -- sorted ones are each up to the next
 each_up_to : (ys : List Anchored) → IsSorted by_fields ys → (k : ℕ) (d : Anchored) → suc k < length ys → IsUpTo (get_or ys k d) (get_or ys (suc k) d)

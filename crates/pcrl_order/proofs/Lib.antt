@@ -1,4 +1,9 @@
 pub mod Apart
+pub mod Behind
 pub mod InOrder
+pub mod Leasts
 pub mod Parts
 pub mod Precincts
+pub mod Resolutions
+pub mod Heres
+pub mod Steps

@@ -1,1 +1,3 @@
 pub mod Anchors
+pub mod Later
+pub mod Least

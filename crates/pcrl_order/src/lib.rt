@@ -2,8 +2,12 @@
 #![tactic(auto)]
 
 mod anchored;
+mod cursor;
+mod laws;
 mod order_list;
 
+pub use cursor::Cursor;
+pub use laws::{later_is_the_rest, places_from_one_on};
 pub use order_list::OrderList;
 
 #[cfg(test)]

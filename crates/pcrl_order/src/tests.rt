@@ -113,3 +113,54 @@ fn the_parts_of_three_bands_are_code_blocks(rt: HostRuntime) -> Result<(), Fail>
     assert_eq!(rt; geometry.bands(place).as_slice(), bands.as_slice());
     Ok(())
 }
+
+/// An area from (0, 0) to (2147483647, 1) in one component, with no decomposition levels and no precinct sizes.
+const WIDE: [u8; 89] = [
+    0xFF, 0x4F, 0xFF, 0x51, 0x00, 0x29, 0x40, 0x00, 0x7F, 0xFF, 0xFF, 0xFF, 0x00, 0x00, 0x00, 0x01,
+    0x00, 0x00, 0x00, 0x00, 0x00, 0x00, 0x00, 0x00, 0x7F, 0xFF, 0xFF, 0xFF, 0x00, 0x00, 0x00, 0x01,
+    0x00, 0x00, 0x00, 0x00, 0x00, 0x00, 0x00, 0x00, 0x00, 0x01, 0x07, 0x01, 0x01, 0xFF, 0x50, 0x00,
+    0x08, 0x00, 0x02, 0x00, 0x00, 0x00, 0x00, 0xFF, 0x52, 0x00, 0x0C, 0x00, 0x03, 0x00, 0x01, 0x00,
+    0x00, 0x04, 0x04, 0x40, 0x01, 0xFF, 0x5C, 0x00, 0x04, 0x40, 0x48, 0xFF, 0x90, 0x00, 0x0A, 0x00,
+    0x00, 0x00, 0x00, 0x00, 0x00, 0x00, 0x01, 0xFF, 0x93,
+];
+
+/// The precinct after one, by a cursor; it stays where it is at the last one.
+fn next_of(rt: &impl Abort, geometry: &Geometry, place: Place) -> Option<Place> {
+    assert!(rt; geometry.holds(place));
+    let mut cursor = Cursor::at(geometry, place);
+    if cursor.advance(geometry) {
+        return Some(cursor.place());
+    }
+    assert!(rt; cursor.place() == place);
+    assert!(rt; !cursor.advance(geometry));
+    assert!(rt; cursor.place() == place);
+    None
+}
+
+#[test]
+fn a_cursor_goes_on_from_each_precinct(rt: HostRuntime) -> Result<(), Fail> {
+    let geometry = geometry_of(&rt, &TWO_COMPONENTS);
+    let list = OrderList::build(rt.alloc(), &geometry)?;
+    let places = list.places();
+    assert!(rt; places.len() == 13);
+    assert!(rt; Cursor::first(&geometry).place() == places[0]);
+    for i in 1..13usize {
+        assert_eq!(rt; next_of(&rt, &geometry, places[i - 1]), Some(places[i]));
+    }
+    assert_eq!(rt; next_of(&rt, &geometry, places[12]), None);
+    Ok(())
+}
+
+#[test]
+fn a_wide_image_has_its_second_precinct_beside_the_first(rt: HostRuntime) -> Result<(), Fail> {
+    let geometry = geometry_of(&rt, &WIDE);
+    let mut cursor = Cursor::first(&geometry);
+    assert!(rt; cursor.place() == Place { c: 0, r: 0, k: 0 });
+    assert!(rt; geometry.holds(cursor.place()));
+    assert!(rt; cursor.advance(&geometry));
+    let place = cursor.place();
+    assert!(rt; place == Place { c: 0, r: 0, k: 1 });
+    assert!(rt; geometry.holds(place));
+    assert!(rt; geometry.anchor(place) == (0, 32768));
+    Ok(())
+}

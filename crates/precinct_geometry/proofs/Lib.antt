@@ -1,4 +1,5 @@
 pub mod Corners
 pub mod Counting
+pub mod Courses
 pub mod Quotients
 pub mod ThreeBands

@@ -101,7 +101,8 @@ pub fn corner(strip: u64, e: u8, step: u8, deeper: u8) -> u64
     requires e { e ≤ 15 }
     requires deeper { deeper ≤ 15 }
     requires strip { strip < 2 ^ 40 }
-    ensures { result ≡ strip * (step * 2 ^ (e + deeper)) }
+    ensures value { result ≡ strip * (step * 2 ^ (e + deeper)) }
+    ensures few { result < 2 ^ 56 }
 {
     let place = strip * power(e);
     let width = u64::from(step) * power(deeper);

@@ -1,23 +1,25 @@
 //! Where the precincts of an image are, what code-blocks they have, and what their numbers are.
-ghost use Rattle.std.specs.Prelude.{◌≡◌, ◌≤◌, ◌<◌, ◌+◌, ◌*◌, ◌^◌, ◌↔◌, IsTrue, IfSome, IsNone, length, map};
+ghost use Rattle.std.specs.Prelude.{◌≡◌, ◌≤◌, ◌<◌, ◌+◌, ◌*◌, ◌/◌, ◌-◌, ◌^◌, ◌↔◌, IsTrue, IfSome, IsNone, length, map};
 ghost use Rattle.std.specs.List.{sum_by};
 ghost use Rattle.codestream_model.specs.Areas as areas;
 ghost use Rattle.codestream_model.specs.Packet.{block_count};
 ghost use Rattle.codestream_model.specs.Precincts as precincts;
 ghost use Rattle.codestream_model.specs.PacketOrder as order;
 ghost use Rattle.codestream_model.specs.Values as values;
+ghost use Rattle.precinct_geometry.specs.Courses.{IsCourse};
 ghost use Rattle.precinct_geometry.specs.Spans.{span_of, area_of, place_of, grid_of, IsWithin};
 
 use crate::areas::{Span, band_span, corner, divided, part, power, strips};
+use crate::course::{Course, course_of};
 use crate::place::{Bands, Grid, Place};
 use j2k_markers::Head;
 use std::marker::Model;
 
 /// Places in x and in y.
 #[derive(Clone, Copy, Debug, PartialEq, Eq)]
-struct Area {
-    x: Span,
-    y: Span,
+pub struct Area {
+    pub x: Span,
+    pub y: Span,
 }
 
 /// The geometry of the image that a main header describes.
@@ -55,7 +57,7 @@ impl Geometry {
     }
 
     /// The area of a component.
-    fn component_area(&self, c: u8) -> Area
+    pub fn component_area(&self, c: u8) -> Area
         requires { c < length self.now.steps }
         ensures area { area_of result ≡ areas.component_area self.now c }
         ensures within { IsWithin result }
@@ -106,6 +108,44 @@ impl Geometry {
             x: band_span(level, band % 2, area.x),
             y: band_span(level, band / 2, area.y),
         }
+    }
+
+    /// The columns of precincts of a resolution.
+    pub fn columns(&self, c: u8, r: u8, area: Area) -> Course
+        requires component { c < length self.now.steps }
+        requires resolution { r ≤ self.now.levels }
+        requires area { area_of area ≡ areas.component_area self.now c }
+        requires within { IsWithin area }
+        ensures start { result.start ≡ self.now.x0 }
+        ensures first { result.first ≡ (areas.resolution_area self.now c r).x.from / 2 ^ (precincts.precinct_exponents self.now r).x }
+        ensures width { result.width ≡ (areas.step_of self.now c).x * 2 ^ ((precincts.precinct_exponents self.now r).x + (self.now.levels - r)) }
+        ensures count { result.count ≡ precincts.precinct_columns self.now c r }
+        ensures course { IsCourse result }
+    {
+        let (x0, _, _, _) = self.head.area();
+        let (step, _) = self.head.step(c);
+        let (e, _) = self.head.precinct(r);
+        let deeper = self.head.levels() - r;
+        course_of(x0, divided(power(deeper), area.x), step, e, deeper)
+    }
+
+    /// The rows of precincts of a resolution.
+    pub fn rows(&self, c: u8, r: u8, area: Area) -> Course
+        requires component { c < length self.now.steps }
+        requires resolution { r ≤ self.now.levels }
+        requires area { area_of area ≡ areas.component_area self.now c }
+        requires within { IsWithin area }
+        ensures start { result.start ≡ self.now.y0 }
+        ensures first { result.first ≡ (areas.resolution_area self.now c r).y.from / 2 ^ (precincts.precinct_exponents self.now r).y }
+        ensures width { result.width ≡ (areas.step_of self.now c).y * 2 ^ ((precincts.precinct_exponents self.now r).y + (self.now.levels - r)) }
+        ensures count { result.count ≡ precincts.precinct_rows self.now c r }
+        ensures course { IsCourse result }
+    {
+        let (_, y0, _, _) = self.head.area();
+        let (_, step) = self.head.step(c);
+        let (_, e) = self.head.precinct(r);
+        let deeper = self.head.levels() - r;
+        course_of(y0, divided(power(deeper), area.y), step, e, deeper)
     }
 
     /// The columns and the rows of precincts of a resolution.
@@ -282,6 +322,8 @@ impl Geometry {
         requires { precincts.IsPrecinct self.now (place_of p) }
         ensures y { result.0 ≡ (order.anchor self.now (place_of p)).y }
         ensures x { result.1 ≡ (order.anchor self.now (place_of p)).x }
+        ensures few_y { result.0 < 2 ^ 56 }
+        ensures few_x { result.1 < 2 ^ 56 }
     {
         let strips_here = self.strips_of(p);
         let (x0, y0, _, _) = self.head.area();

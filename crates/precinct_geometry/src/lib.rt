@@ -3,10 +3,13 @@
 #![tactic(auto)]
 
 mod areas;
+mod course;
 mod geometry;
 mod place;
 
-pub use geometry::Geometry;
+pub use areas::Span;
+pub use course::Course;
+pub use geometry::{Area, Geometry};
 pub use place::{Bands, Grid, Place};
 
 #[cfg(test)]
