@@ -1,0 +1,3 @@
+pub mod Datagrams
+pub mod States
+pub mod Views
