@@ -6,12 +6,12 @@ use borrow.Rule.Slice.PartMut.{put_mid}
 use Rattle.scl_outside.specs.Meaning.{Meaning}
 use Rattle.scl_outside.specs.Events.{Event, Took, Ended, ReadFailed}
 use Rattle.scl_outside.specs.Steps.{Step}
-use Rattle.scl_outside.specs.Effects.{Effects, nothing, only_read, and_then, effects}
+use Rattle.scl_outside.specs.Effects.{Effects, nothing, only_read, read_to_end, and_then, effects}
 use Rattle.scl_outside.specs.Traces.{Trace, AtReads}
 use Rattle.scl_outside.proofs.Traces.{effects_then, effects_more, trace_join, trace_one, at_reads_join, at_reads_then}
 use Rattle.capture_frames.specs.Reading.{Below, Fills, Skips}
 use Rattle.capture_frames.specs.declared.filling.Filled.TheVariants.{All, Short, Failed}
-use Rattle.capture_frames.proofs.ReadEffects.{read_none, read_failed, own_read, reads_after}
+use Rattle.capture_frames.proofs.ReadEffects.{read_end, read_failed, own_read, reads_after, reads_passed}
 
 -- so far these many bytes of a buffer came
 pub record Filling (s t : Meaning) (at : ℕ) (buf : List ℕ) (es : List Event) : Type 0 where
@@ -44,7 +44,7 @@ filled_more s t u at n buf part es f few room more step =
     let size = size_of at buf part f.fits room in
     record {
       trace = trace_join s t u es (Took (take n part) ∷ []) f.trace (trace_one t u (Took (take n part)) step);
-      within = rw size (at_reads_join (Below (length buf)) nothing es (Took (take n part) ∷ []) f.within (below s t at buf es f more, tt));
+      within = rw size (at_reads_join (Below (length buf)) nothing es (Took (take n part) ∷ []) f.within (below s t at buf es f more, reads_passed (effects es) (take at buf) f.bytes, tt));
       bytes = effects_more es (Took (take n part)) (only_read (take at buf)) f.bytes ∙ ap (λ (l : List ℕ). only_read l) (sym (take_on at n buf part f.fits));
       fits = omega (arith, size);
     }
@@ -56,8 +56,8 @@ short s t u at buf part es f more room step =
     let size = size_of at buf part f.fits room in
     record {
       trace = trace_join s t u es (Ended ∷ []) f.trace (trace_one t u Ended step);
-      within = rw size (at_reads_join (Below (length buf)) nothing es (Ended ∷ []) f.within (below s t at buf es f more, tt));
-      gives = (rw size more, effects_more es Ended (only_read (take at buf)) f.bytes ∙ (read_none (take at buf) ∙ ap (λ (l : List ℕ). only_read l) (sym (take_at (take at buf) part at (length-take-le at buf f.fits)))), step.over);
+      within = rw size (at_reads_join (Below (length buf)) nothing es (Ended ∷ []) f.within (below s t at buf es f more, reads_passed (effects es) (take at buf) f.bytes, tt));
+      gives = (rw size more, effects_more es Ended (only_read (take at buf)) f.bytes ∙ (read_end (take at buf) ∙ ap (λ (l : List ℕ). read_to_end l) (sym (take_at (take at buf) part at (length-take-le at buf f.fits)))));
     }
 
 -- the answer after a read that failed
@@ -67,7 +67,7 @@ failed s t u at buf part es f more room step =
     let size = size_of at buf part f.fits room in
     record {
       trace = trace_join s t u es (ReadFailed ∷ []) f.trace (trace_one t u ReadFailed step);
-      within = rw size (at_reads_join (Below (length buf)) nothing es (ReadFailed ∷ []) f.within (below s t at buf es f more, tt));
+      within = rw size (at_reads_join (Below (length buf)) nothing es (ReadFailed ∷ []) f.within (below s t at buf es f more, reads_passed (effects es) (take at buf) f.bytes, tt));
       gives = (take at buf, rw (size, length-take-le at buf f.fits) more, effects_more es ReadFailed (only_read (take at buf)) f.bytes ∙ read_failed (take at buf));
     }
 
@@ -94,7 +94,7 @@ skipped_more s t u done len part buf es fs k room size f =
     let bytes : effects (es ++ fs) ≡ only_read ((effects es).read ++ buf) = effects_then es fs _ _ k.bytes f.gives in
     record {
       trace = trace_join s t u es fs k.trace f.trace;
-      within = at_reads_then (Below part) (Below len) es fs k.within (later_below part len es k.bytes (let m = k.many in omega arith)) (rw (sym size) f.within);
+      within = at_reads_then (Below part) (Below len) es fs k.within (reads_passed (effects es) (effects es).read k.bytes) (later_below part len es k.bytes (let m = k.many in omega arith)) (rw (sym size) f.within);
       bytes = own_read (effects (es ++ fs)) _ bytes;
       many = ap (λ (x : Effects). length x.read) bytes ∙ (let m = k.many in omega (arith, length-append (effects es).read buf));
       fits = room;
@@ -106,8 +106,8 @@ skipped_short s t u done len part n buf es fs k room size f =
     let few : n < length buf = f.gives.0 in
     record {
       trace = trace_join s t u es fs k.trace f.trace;
-      within = at_reads_then (Below part) (Below len) es fs k.within (later_below part len es k.bytes (omega arith)) (rw (sym size) f.within);
-      gives = ((effects es).read ++ take n buf, omega (arith, length-append (effects es).read (take n buf), length-take-le n buf (omega arith)), omega arith, effects_then es fs _ _ k.bytes f.gives.1, f.gives.2);
+      within = at_reads_then (Below part) (Below len) es fs k.within (reads_passed (effects es) (effects es).read k.bytes) (later_below part len es k.bytes (omega arith)) (rw (sym size) f.within);
+      gives = ((effects es).read ++ take n buf, omega (arith, length-append (effects es).read (take n buf), length-take-le n buf (omega arith)), omega arith, effects_then es fs _ _ k.bytes f.gives.1);
     }
 
 pub skipped_failed : (s t u : Meaning) (done len part : ℕ) (buf : List ℕ) (es fs : List Event) → Skipping s t done len es → done + part ≤ len → length buf ≡ part → Fills t u Failed buf fs → Skips s u Failed len (es ++ fs)
@@ -116,7 +116,7 @@ skipped_failed s t u done len part buf es fs k room size f =
     let few : length f.gives.0 < length buf = f.gives.1 in
     record {
       trace = trace_join s t u es fs k.trace f.trace;
-      within = at_reads_then (Below part) (Below len) es fs k.within (later_below part len es k.bytes (omega arith)) (rw (sym size) f.within);
+      within = at_reads_then (Below part) (Below len) es fs k.within (reads_passed (effects es) (effects es).read k.bytes) (later_below part len es k.bytes (omega arith)) (rw (sym size) f.within);
       gives = ((effects es).read ++ f.gives.0, omega (arith, length-append (effects es).read f.gives.0), effects_then es fs _ _ k.bytes f.gives.2);
     }
 

@@ -7,13 +7,13 @@ use Rattle.std.proofs.lemmas.Bool.Decides.{nat_tests}
 use Rattle.wire_model.specs.Framing.{frame, IsPartial}
 use Rattle.scl_outside.specs.Meaning.{Meaning}
 use Rattle.scl_outside.specs.Events.{Event}
-use Rattle.scl_outside.specs.Effects.{Effects, nothing, only_read, and_then, effects}
+use Rattle.scl_outside.specs.Effects.{Effects, nothing, only_read, read_to_end, and_then, effects}
 use Rattle.scl_outside.specs.Traces.{AtReads}
 use Rattle.scl_outside.proofs.Traces.{effects_then, trace_join, at_reads_then, at_reads_map}
 use Rattle.capture_frames.specs.Reading.{Wishes, InsideFrame, Fetches, ReadsFrame, FrameGives, answer_for, body_length, left_at}
 use Rattle.capture_frames.specs.declared.filling.Fetched.TheVariants.{All, Short, Past, Failed}
 use Rattle.capture_frames.specs.declared.reader.FrameOut.TheVariants.{Whole, Empty, Oversize, End, Cut, TooLong, ReadFault}
-use Rattle.capture_frames.proofs.ReadEffects.{own_read, reads_after}
+use Rattle.capture_frames.proofs.ReadEffects.{own_read, reads_after, reads_passed}
 
 take_all : (xs : List ℕ) (n : ℕ) → length xs ≡ n → take n xs ≡ xs
 take_all xs n e = ap (λ (l : List ℕ). take n l) (sym (append-nil xs)) ∙ take_at xs [] n e
@@ -50,7 +50,7 @@ head_inside left es h = at_reads_map (Wishes 2 left) (InsideFrame left) nothing 
 
 -- and before each read of its bytes
 both_inside : (left : ℕ) (head : List ℕ) (es fs : List Event) → length head ≡ 2 → 2 ≤ left → effects es ≡ only_read head → AtReads (Wishes 2 left) nothing es → AtReads (Wishes (body_length head) (left - 2)) nothing fs → AtReads (InsideFrame left) nothing (es ++ fs)
-both_inside left head es fs two room is h b = at_reads_then (Wishes (body_length head) (left - 2)) (InsideFrame left) es fs (head_inside left es h) inside b where
+both_inside left head es fs two room is h b = at_reads_then (Wishes (body_length head) (left - 2)) (InsideFrame left) es fs (head_inside left es h) (reads_passed (effects es) head is) inside b where
   inside : (f : Effects) → Wishes (body_length head) (left - 2) f → InsideFrame left (and_then (effects es) f)
   inside f w =
       let both : and_then (effects es) f ≡ only_read (head ++ f.read) = reads_after head (effects es) f is w.0 in
@@ -61,7 +61,7 @@ both_inside left head es fs two room is h b = at_reads_then (Wishes (body_length
 -- the input's end at a frame's start
 pub frame_end : (offset : ℕ) (s t : Meaning) (head buf : List ℕ) (es : List Event) → Fetches s t (Short 0) 2 (left_at offset) head es → ReadsFrame offset s t End buf es
 frame_end offset s t head buf es f =
-    record { trace = f.trace; within = head_inside (left_at offset) es f.within; gives = (f.gives.4 ∙ ap (λ (l : List ℕ). only_read l) (empty f.gives.0 f.gives.1), f.gives.5) } where
+    record { trace = f.trace; within = head_inside (left_at offset) es f.within; gives = f.gives.4 ∙ ap (λ (l : List ℕ). read_to_end l) (empty f.gives.0 f.gives.1) } where
       empty : (xs : List ℕ) → length xs ≡ 0 → xs ≡ []
       empty [] e = refl
       empty (x ∷ xs) e = absurd (let g : suc (length xs) ≡ 0 = e in omega arith)
@@ -75,7 +75,7 @@ frame_cut offset s t head buf n es some f =
     record {
       trace = f.trace;
       within = head_inside (left_at offset) es f.within;
-      gives = (f.gives.0, refl, (λ e. let z : length f.gives.0 ≡ 0 = ap length e in omega arith), less_than_two f.gives.0 (omega arith), rw size room, f.gives.4, f.gives.5);
+      gives = (f.gives.0, refl, (λ e. let z : length f.gives.0 ≡ 0 = ap length e in omega arith), less_than_two f.gives.0 (omega arith), rw size room, f.gives.4);
     }
 
 pub frame_failed : (offset : ℕ) (s t : Meaning) (head buf : List ℕ) (es : List Event) → Fetches s t Failed 2 (left_at offset) head es → ReadsFrame offset s t ReadFault buf es
@@ -98,16 +98,16 @@ whole_head : {s t : Meaning} {left : ℕ} {es : List Event} (head : List ℕ) �
 whole_head head f two = f.gives.4 ∙ ap (λ (l : List ℕ). only_read l) (f.gives.3 (omega arith) ∙ take_all head 2 two)
 
 -- what a whole frame is, by its length
-gives_long : (offset len : ℕ) (buf d : List ℕ) (f : Effects) (t : Meaning) → f ≡ only_read (frame d) → length d ≡ len → len < 2 ^ 16 → 2 + len ≤ left_at offset → 0 < len → (len ≤ 9000 → d ≡ take len buf)
-    → (b : Bool) → nat_le len 9000 ≡ b → FrameGives (if b then Whole len else Oversize len) offset buf f t
-gives_long offset len buf d f t is size fits room some kept true e = let short : len ≤ 9000 = grind (arith, nat_tests) in (some, short, room, is ∙ ap (λ (l : List ℕ). only_read (frame l)) (kept short))
-gives_long offset len buf d f t is size fits room some kept false e = (d, size, (let long : 9000 < len = grind (arith, nat_tests) in long), fits, room, is)
+gives_long : (offset len : ℕ) (buf d : List ℕ) (f : Effects) → f ≡ only_read (frame d) → length d ≡ len → len < 2 ^ 16 → 2 + len ≤ left_at offset → 0 < len → (len ≤ 9000 → d ≡ take len buf)
+    → (b : Bool) → nat_le len 9000 ≡ b → FrameGives (if b then Whole len else Oversize len) offset buf f
+gives_long offset len buf d f is size fits room some kept true e = let short : len ≤ 9000 = grind (arith, nat_tests) in (some, short, room, is ∙ ap (λ (l : List ℕ). only_read (frame l)) (kept short))
+gives_long offset len buf d f is size fits room some kept false e = (d, size, (let long : 9000 < len = grind (arith, nat_tests) in long), fits, room, is)
 
-gives_any : (offset len : ℕ) (buf d : List ℕ) (f : Effects) (t : Meaning) → f ≡ only_read (frame d) → length d ≡ len → len < 2 ^ 16 → 2 + len ≤ left_at offset → (len ≤ 9000 → d ≡ take len buf)
-    → (b : Bool) → (len == 0) ≡ b → FrameGives (if b then Empty else (if nat_le len 9000 then Whole len else Oversize len)) offset buf f t
-gives_any offset len buf [] f t is size fits room kept true e = ((let r : 2 + len ≤ left_at offset = room in omega arith), is)
-gives_any offset len buf (x ∷ d) f t is size fits room kept true e = absurd (let z : len ≡ 0 = grind (arith, nat_tests) in let y : suc (length d) ≡ len = size in omega arith)
-gives_any offset len buf d f t is size fits room kept false e = gives_long offset len buf d f t is size fits room (let some : 0 < len = grind (arith, nat_tests) in some) kept (nat_le len 9000) refl
+gives_any : (offset len : ℕ) (buf d : List ℕ) (f : Effects) → f ≡ only_read (frame d) → length d ≡ len → len < 2 ^ 16 → 2 + len ≤ left_at offset → (len ≤ 9000 → d ≡ take len buf)
+    → (b : Bool) → (len == 0) ≡ b → FrameGives (if b then Empty else (if nat_le len 9000 then Whole len else Oversize len)) offset buf f
+gives_any offset len buf [] f is size fits room kept true e = ((let r : 2 + len ≤ left_at offset = room in omega arith), is)
+gives_any offset len buf (x ∷ d) f is size fits room kept true e = absurd (let z : len ≡ 0 = grind (arith, nat_tests) in let y : suc (length d) ≡ len = size in omega arith)
+gives_any offset len buf d f is size fits room kept false e = gives_long offset len buf d f is size fits room (let some : 0 < len = grind (arith, nat_tests) in some) kept (nat_le len 9000) refl
 
 -- a length, and all the bytes that it says
 pub frame_whole : (offset : ℕ) (s t u : Meaning) (head buf : List ℕ) (len : ℕ) (es fs : List Event) → length head ≡ 2 → get_or head 1 0 < 256 → len < 2 ^ 16 → len ≡ body_length head → length buf ≡ 9000
@@ -120,7 +120,7 @@ frame_whole offset s t u head buf len es fs two low fits is big f b =
     record {
       trace = trace_join s t u es fs f.trace b.trace;
       within = both_inside (left_at offset) head es fs two room first f.within (rw is at b.within);
-      gives = gives_any offset len buf b.gives.0 (effects (es ++ fs)) u all b.gives.1 fits (omega arith) (λ h. b.gives.3 (omega arith)) (len == 0) refl;
+      gives = gives_any offset len buf b.gives.0 (effects (es ++ fs)) all b.gives.1 fits (omega arith) (λ h. b.gives.3 (omega arith)) (len == 0) refl;
     }
 
 pub frame_short : (offset : ℕ) (s t u : Meaning) (head buf : List ℕ) (len n : ℕ) (es fs : List Event) → length head ≡ 2 → len ≡ body_length head
@@ -141,7 +141,6 @@ frame_short offset s t u head buf len n es fs two is f b =
         two_and_fewer head b.gives.0 two (omega arith),
         omega (arith, length-append head b.gives.0),
         effects_then es fs _ _ first b.gives.4,
-        b.gives.5,
       );
     }
 

@@ -3,8 +3,8 @@ use Rattle.std.specs.Prelude.{◌≡◌, ◌≢◌, ◌<◌, ◌≤◌, ◌+◌,
 use Rattle.wire_model.specs.Framing.{frame, IsPartial}
 use Rattle.scl_outside.specs.Meaning.{Meaning}
 use Rattle.scl_outside.specs.Events.{Event}
-use Rattle.scl_outside.specs.Effects.{Effects, nothing, only_read, read_until_failed, effects}
-use Rattle.scl_outside.specs.Traces.{Trace, AtReads, IsOver}
+use Rattle.scl_outside.specs.Effects.{Effects, nothing, only_read, read_to_end, read_until_failed, effects}
+use Rattle.scl_outside.specs.Traces.{Trace, AtReads}
 use Rattle.capture_frames.specs.FramesState.{FramesState}
 use Rattle.capture_frames.specs.declared.filling.Filled.{Filled}
 use Rattle.capture_frames.specs.declared.filling.Filled.TheVariants.{All, Short, Failed}
@@ -18,39 +18,39 @@ abbrev pub Below : ℕ → Effects → Type 0
 Below n f = (f ≡ only_read f.read) × (length f.read < n)
 
 -- the bytes that filled a buffer, by the answer
-abbrev pub FillGives : Filled → List ℕ → Effects → Meaning → Type 0
-FillGives All buf f t = f ≡ only_read buf
-FillGives (Short n) buf f t = (n < length buf) × (f ≡ only_read (take n buf)) × IsOver t
-FillGives Failed buf f t = (bytes : List ℕ) × (length bytes < length buf) × (f ≡ read_until_failed bytes)
+abbrev pub FillGives : Filled → List ℕ → Effects → Type 0
+FillGives All buf f = f ≡ only_read buf
+FillGives (Short n) buf f = (n < length buf) × (f ≡ read_to_end (take n buf))
+FillGives Failed buf f = (bytes : List ℕ) × (length bytes < length buf) × (f ≡ read_until_failed bytes)
 
 -- a buffer is filled: only reads, each before the buffer is full
 pub record Fills (s t : Meaning) (result : Filled) (buf : List ℕ) (es : List Event) : Type 0 where
   pub trace : Trace s es t
   pub within : AtReads (Below (length buf)) nothing es
-  pub gives : FillGives result buf (effects es) t
+  pub gives : FillGives result buf (effects es)
 
 -- how many bytes were passed over, by the answer
-abbrev pub SkipGives : Filled → ℕ → Effects → Meaning → Type 0
-SkipGives All len f t = (bytes : List ℕ) × (length bytes ≡ len) × (f ≡ only_read bytes)
-SkipGives (Short n) len f t = (bytes : List ℕ) × (length bytes ≡ n) × (n < len) × (f ≡ only_read bytes) × IsOver t
-SkipGives Failed len f t = (bytes : List ℕ) × (length bytes < len) × (f ≡ read_until_failed bytes)
+abbrev pub SkipGives : Filled → ℕ → Effects → Type 0
+SkipGives All len f = (bytes : List ℕ) × (length bytes ≡ len) × (f ≡ only_read bytes)
+SkipGives (Short n) len f = (bytes : List ℕ) × (length bytes ≡ n) × (n < len) × (f ≡ read_to_end bytes)
+SkipGives Failed len f = (bytes : List ℕ) × (length bytes < len) × (f ≡ read_until_failed bytes)
 
 -- bytes are passed over: only reads, each before all are
 pub record Skips (s t : Meaning) (result : Filled) (len : ℕ) (es : List Event) : Type 0 where
   pub trace : Trace s es t
   pub within : AtReads (Below len) nothing es
-  pub gives : SkipGives result len (effects es) t
+  pub gives : SkipGives result len (effects es)
 
 -- the bytes that were taken, by the answer: at the buffer's front where they fit
-abbrev pub TakeGives : Filled → ℕ → List ℕ → Effects → Meaning → Type 0
-TakeGives All len buf f t = (bytes : List ℕ) × (length bytes ≡ len) × (len ≤ length buf → bytes ≡ take len buf) × (f ≡ only_read bytes)
-TakeGives (Short n) len buf f t = (bytes : List ℕ) × (length bytes ≡ n) × (n < len) × (f ≡ only_read bytes) × IsOver t
-TakeGives Failed len buf f t = (bytes : List ℕ) × (length bytes < len) × (f ≡ read_until_failed bytes)
+abbrev pub TakeGives : Filled → ℕ → List ℕ → Effects → Type 0
+TakeGives All len buf f = (bytes : List ℕ) × (length bytes ≡ len) × (len ≤ length buf → bytes ≡ take len buf) × (f ≡ only_read bytes)
+TakeGives (Short n) len buf f = (bytes : List ℕ) × (length bytes ≡ n) × (n < len) × (f ≡ read_to_end bytes)
+TakeGives Failed len buf f = (bytes : List ℕ) × (length bytes < len) × (f ≡ read_until_failed bytes)
 
 pub record Takes (s t : Meaning) (result : Filled) (len : ℕ) (buf : List ℕ) (es : List Event) : Type 0 where
   pub trace : Trace s es t
   pub within : AtReads (Below len) nothing es
-  pub gives : TakeGives result len buf (effects es) t
+  pub gives : TakeGives result len buf (effects es)
 
 -- so far only reads were made, of fewer bytes than are wished for and no more than are left
 abbrev pub Wishes : ℕ → ℕ → Effects → Type 0
@@ -58,17 +58,17 @@ Wishes len left f = (f ≡ only_read f.read) × (length f.read < len) × (length
 
 -- the bytes that were wished for, by the answer: all of them, at the buffer's front where they fit; fewer, where the
 -- input is over; or one more than were left
-abbrev pub FetchGives : Fetched → ℕ → ℕ → List ℕ → Effects → Meaning → Type 0
-FetchGives Whole_part len left buf f t =
+abbrev pub FetchGives : Fetched → ℕ → ℕ → List ℕ → Effects → Type 0
+FetchGives Whole_part len left buf f =
     (bytes : List ℕ) × (length bytes ≡ len) × (len ≤ left) × (len ≤ length buf → bytes ≡ take len buf) × (f ≡ only_read bytes)
-FetchGives (Short_part n) len left buf f t = (bytes : List ℕ) × (length bytes ≡ n) × (n < len) × (n ≤ left) × (f ≡ only_read bytes) × IsOver t
-FetchGives Past len left buf f t = (bytes : List ℕ) × (length bytes ≡ left + 1) × (left < len) × (f ≡ only_read bytes)
-FetchGives Failed_part len left buf f t = (bytes : List ℕ) × (length bytes < len) × (length bytes ≤ left) × (f ≡ read_until_failed bytes)
+FetchGives (Short_part n) len left buf f = (bytes : List ℕ) × (length bytes ≡ n) × (n < len) × (n ≤ left) × (f ≡ read_to_end bytes)
+FetchGives Past len left buf f = (bytes : List ℕ) × (length bytes ≡ left + 1) × (left < len) × (f ≡ only_read bytes)
+FetchGives Failed_part len left buf f = (bytes : List ℕ) × (length bytes < len) × (length bytes ≤ left) × (f ≡ read_until_failed bytes)
 
 pub record Fetches (s t : Meaning) (result : Fetched) (len left : ℕ) (buf : List ℕ) (es : List Event) : Type 0 where
   pub trace : Trace s es t
   pub within : AtReads (Wishes len left) nothing es
-  pub gives : FetchGives result len left buf (effects es) t
+  pub gives : FetchGives result len left buf (effects es)
 
 -- the length that two bytes spell
 abbrev pub body_length : List ℕ → ℕ
@@ -91,21 +91,21 @@ InsideFrame left f = (f ≡ only_read f.read) × IsPartial f.read × (length f.r
 
 -- what was read, by the answer: one frame; nothing at the input's end; less than a frame at its end inside one, or
 -- before a read that failed; one byte past the limit
-abbrev pub FrameGives : FrameOut → ℕ → List ℕ → Effects → Meaning → Type 0
-FrameGives (Whole n) offset buf f t = (1 ≤ n) × (n ≤ 9000) × (2 + n ≤ left_at offset) × (f ≡ only_read (frame (take n buf)))
-FrameGives Empty offset buf f t = (2 ≤ left_at offset) × (f ≡ only_read (frame []))
-FrameGives (Oversize n) offset buf f t = (d : List ℕ) × (length d ≡ n) × (9000 < n) × (n < 2 ^ 16) × (2 + n ≤ left_at offset) × (f ≡ only_read (frame d))
-FrameGives End offset buf f t = (f ≡ nothing) × IsOver t
-FrameGives (Cut at) offset buf f t =
-    (bytes : List ℕ) × (at ≡ offset) × (bytes ≢ []) × IsPartial bytes × (length bytes ≤ left_at offset) × (f ≡ only_read bytes) × IsOver t
-FrameGives TooLong offset buf f t = (bytes : List ℕ) × (length bytes ≡ left_at offset + 1) × IsPartial (take (left_at offset) bytes) × (f ≡ only_read bytes)
-FrameGives ReadFault offset buf f t = (bytes : List ℕ) × IsPartial bytes × (length bytes ≤ left_at offset) × (f ≡ read_until_failed bytes)
+abbrev pub FrameGives : FrameOut → ℕ → List ℕ → Effects → Type 0
+FrameGives (Whole n) offset buf f = (1 ≤ n) × (n ≤ 9000) × (2 + n ≤ left_at offset) × (f ≡ only_read (frame (take n buf)))
+FrameGives Empty offset buf f = (2 ≤ left_at offset) × (f ≡ only_read (frame []))
+FrameGives (Oversize n) offset buf f = (d : List ℕ) × (length d ≡ n) × (9000 < n) × (n < 2 ^ 16) × (2 + n ≤ left_at offset) × (f ≡ only_read (frame d))
+FrameGives End offset buf f = f ≡ read_to_end []
+FrameGives (Cut at) offset buf f =
+    (bytes : List ℕ) × (at ≡ offset) × (bytes ≢ []) × IsPartial bytes × (length bytes ≤ left_at offset) × (f ≡ read_to_end bytes)
+FrameGives TooLong offset buf f = (bytes : List ℕ) × (length bytes ≡ left_at offset + 1) × IsPartial (take (left_at offset) bytes) × (f ≡ only_read bytes)
+FrameGives ReadFault offset buf f = (bytes : List ℕ) × IsPartial bytes × (length bytes ≤ left_at offset) × (f ≡ read_until_failed bytes)
 
 -- one frame of the duct, from this offset: only reads, each inside the frame
 pub record ReadsFrame (offset : ℕ) (s t : Meaning) (result : FrameOut) (buf : List ℕ) (es : List Event) : Type 0 where
   pub trace : Trace s es t
   pub within : AtReads (InsideFrame (left_at offset)) nothing es
-  pub gives : FrameGives result offset buf (effects es) t
+  pub gives : FrameGives result offset buf (effects es)
 
 -- a reader at a capture's start
 abbrev pub start : FramesState

@@ -2,6 +2,7 @@
 #![tactic(auto)]
 
 use scl_cli::{Machine, Words, run};
+use scl_outside::Duct;
 use std::alloc::AllocError;
 use std::env::{self, Env};
 use std::io::{ErrorKind, Write};
@@ -12,16 +13,23 @@ const VERSION: &str = "scl 0.1.0\n";
 const HELP: &str = "\
 scl carries JPEG 2000 codestreams over RTP. It reads standard input and writes standard output.
 
-  scl thin T      passes on the frames of a capture that serve a receiver with the limit T, 0 to 7:
-                  each Main, and each Body whose RES is at most T
-  scl head        shows the main header at the front of a codestream, a line for each of its values
-  scl order       shows the precincts of that header's image in packet order, a line for each
-  scl --help      this page
-  scl --version   the version
+  scl thin T                      passes on the frames of a capture that serve a receiver with the limit T,
+                                  0 to 7: each Main, and each Body whose RES is at most T
+  scl report KIND SOURCE WINDOW   shows the precincts that a capture gives of a stream, each as soon as it is
+                                  complete; SOURCE is an SSRC or any, WINDOW 1 to 16384 datagrams
+  scl parse STAMP STEP            shows the packets of codestreams, with their timestamps
+  scl head                        shows the main header at the front of a codestream
+  scl order                       shows the precincts of that header's image in packet order
+  scl --help                      this page
+  scl --version                   the version
 
 Status 0: done. 2: the words aren't one of these. 3: a read failed. 4: a write failed.
-6: the input is refused; the line on standard error says where and why. 7: want of memory.
+5: an address was refused, or no datagram could be received.
+6: the input is refused; the line on standard error says where and why. 7: out of memory.
 ";
+
+/// The line that follows `scl: words` on standard error.
+const HINT: &[u8] = b"try 'scl --help'\n";
 
 /// The words of the command line, without the program's name; none at all where one isn't UTF-8.
 fn words_of<R: Env + AllocGlobal>(rt: &R) -> Result<Words, AllocError> {
@@ -52,7 +60,7 @@ fn page_for(words: &Words) -> Option<&'static str> {
     }
 }
 
-/// Writes a page, and answers the status.
+/// Writes a page, and answers the status: 0, or 4 where it can't be written.
 fn show<W: Write + Drop>(mut output: W, page: &str) -> u8 {
     match output.write_all(page.as_bytes()) {
         Ok(()) => 0,
@@ -67,9 +75,12 @@ fn main(rt: HostRuntime) -> ExitCode {
     if let Some(page) = page_for(&words) {
         return ExitCode::from(show(rt.stdout(), page));
     }
-    match Machine::new(rt.alloc(), rt.stdin(), rt.stdout(), rt.stderr()) {
+    match Machine::new(rt.alloc(), rt.stdin(), rt.stdout(), rt.stderr(), rt) {
         Ok(mut machine) => {
             let status = run(rt.alloc(), &words, &mut machine);
+            if status == 2 {
+                machine.note(HINT);
+            }
             ExitCode::from(machine.finish(status))
         }
         Err(_) => ExitCode::from(7),

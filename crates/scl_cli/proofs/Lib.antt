@@ -1,4 +1,5 @@
 pub mod HeadText
+pub mod Grammar
 pub mod Looking
 pub mod Shown
 pub mod Ordered
@@ -6,3 +7,5 @@ pub mod Keeping
 pub mod TurnsTaken
 pub mod SoFar
 pub mod Runs
+pub mod MachineSteps
+pub mod Reported

@@ -1,46 +1,68 @@
--- The precincts of a main header in the order of their packets, line by line.
-use Rattle.std.proofs.Common.{◌≡◌, ◌<◌, ◌+◌, ℕ, List, [], ◌∷◌, ◌++◌, map, length, take, drop, get_or, sym, subst, ◌∙◌, ap, arith}
-use Rattle.std.specs.List.{All, flat_map}
+-- The lines of an image's precincts, written one after another in packet order.
+use Rattle.std.proofs.Common.{◌≡◌, ℕ, List, [], ◌∷◌, ◌++◌, refl, sym, ◌∙◌, ap, append_assoc}
+use Rattle.std.specs.List.{flat_map}
 use Rattle.std.proofs.lemmas.Grind.{flat_map-append}
-use Rattle.std.proofs.lemmas.List.{append-nil, map-append, length-map, get_or-map, take_more, take-append-drop}
-use Rattle.std.proofs.lemmas.List.Elements.{Contains-get_or, All-get_or}
+use Rattle.std.proofs.lemmas.List.{append-nil}
 use Rattle.codestream_model.specs.Values.{Head, Place}
-use Rattle.codestream_model.specs.HeadLimits.{IsWithinLimits}
 use Rattle.codestream_model.specs.Precincts.{IsPrecinct}
-use Rattle.codestream_model.specs.PacketOrder.{IsPacketOrder, packet_order}
-use Rattle.codestream_model.proofs.Orders.{packet_order_is_one, packet_order_is_computed}
-use Rattle.pcrl_order.proofs.InOrder.{has_steps}
+use Rattle.codestream_model.specs.PacketOrder.{packet_order}
+use Rattle.pcrl_order.specs.Later.{later}
+use Rattle.scl_outside.specs.Meaning.{Meaning}
+use Rattle.scl_outside.specs.Events.{Event, Wrote, WriteFailed}
+use Rattle.scl_outside.specs.Steps.{Step}
+use Rattle.scl_outside.specs.declared.duct.PutOut.TheVariants.{Done as Put}
+use Rattle.scl_run.specs.declared.ending.Ending.TheVariants.{Done, WriteFault}
 use Rattle.scl_cli.specs.OrderLines.{place_line, order_lines}
+use Rattle.scl_outside.specs.Writing.{Puts}
+use Rattle.scl_cli.specs.Showing.{Shows}
+use Rattle.scl_cli.proofs.Shown.{wrote_more, wrote_front, orders, orders_front}
 
--- a packet order has precincts of the image alone,
-pub ordered_are_precincts : (h : Head) (places : List Place) → IsPacketOrder h places → All (IsPrecinct h) places
-ordered_are_precincts h places order = λ k d lt. (order.each (get_or places k d)).0 (Contains-get_or places k d lt)
+-- the lines of the precincts before one were written
+pub record OrderSoFar (h : Head) (s t : Meaning) (p : Place) (es : List Event) : Type 0 where
+  pub before : List Place
+  pub order : packet_order h ≡ before ++ p ∷ later h p
+  pub place : IsPrecinct h p
+  pub wrote : Puts (flat_map (place_line h) before) s t Put es
 
--- and is the one that is computed
-ordered_is_computed : (h : Head) (places : List Place) → IsWithinLimits h → IsPacketOrder h places → places ≡ packet_order h
-ordered_is_computed h places limits order = packet_order_is_one h places (packet_order h) order (packet_order_is_computed h (has_steps h limits))
+-- at the first precinct nothing was
+pub at_first : (h : Head) (s : Meaning) (p : Place) → packet_order h ≡ p ∷ later h p → IsPrecinct h p → OrderSoFar h s s p []
+at_first h s p first is = record { before = []; order = first; place = is; wrote = record { trace = refl; within = tt; gives = refl } }
 
--- the lines of the items that are behind, and that of one more
-pub line_behind : {X Y : Type 0} (f : Y → List ℕ) (g : X → Y) (xs : List X) (i : ℕ) (d : X) → i < length xs → flat_map f (map g (take (i + 1) xs)) ≡ flat_map f (map g (take i xs)) ++ f (g (get_or xs i d))
-line_behind f g xs i d lt =
-    ap (λ l. flat_map f (map g l)) (take_more xs i d lt)
-    ∙ (ap (λ l. flat_map f l) (map-append g (take i xs) (get_or xs i d ∷ []))
-    ∙ (flat_map-append f (map g (take i xs)) (g (get_or xs i d) ∷ [])
-    ∙ ap (λ (l : List ℕ). flat_map f (map g (take i xs)) ++ l) (append-nil (f (g (get_or xs i d))))))
+-- the lines of some precincts and of one more
+lines_more : (h : Head) (before : List Place) (p : Place) → flat_map (place_line h) (before ++ p ∷ []) ≡ flat_map (place_line h) before ++ place_line h p
+lines_more h before p = flat_map-append (place_line h) before (p ∷ []) ∙ ap (λ (l : List ℕ). flat_map (place_line h) before ++ l) (append-nil (place_line h p))
 
--- the lines of all items are those of the ones that are behind and of the others
-pub lines_ahead : {X Y : Type 0} (f : Y → List ℕ) (g : X → Y) (xs : List X) (i : ℕ) → flat_map f (map g xs) ≡ flat_map f (map g (take i xs)) ++ flat_map f (map g (drop i xs))
-lines_ahead f g xs i =
-    ap (λ l. flat_map f (map g l)) (sym (take-append-drop i xs))
-    ∙ (ap (λ l. flat_map f l) (map-append g (take i xs) (drop i xs)) ∙ flat_map-append f (map g (take i xs)) (map g (drop i xs)))
+-- one more line was written
+pub line_written : (h : Head) (s t u : Meaning) (p : Place) (line : List ℕ) (es : List Event) (o : OrderSoFar h s t p es) → line ≡ place_line h p → Step t (Wrote line) u
+    → Puts (flat_map (place_line h) (o.before ++ p ∷ [])) s u Put (es ++ Wrote line ∷ [])
+line_written h s t u p line es o is step =
+    wrote_more (flat_map (place_line h) o.before) line (flat_map (place_line h) (o.before ++ p ∷ [])) s t u es (lines_more h o.before p ∙ ap (λ (l : List ℕ). flat_map (place_line h) o.before ++ l) (sym is)) o.wrote step
 
--- what is true of each item's image is true of an item's
-pub each_item : {X Y : Type 0} (P : Y → Type 0) (g : X → Y) (xs : List X) (i : ℕ) (d : X) → i < length xs → All P (map g xs) → P (g (get_or xs i d))
-each_item P g xs i d lt all = subst P (get_or-map g xs i d (g d) lt) (All-get_or P (map g xs) i (g d) (let e : length (map g xs) ≡ length xs = length-map xs g in omega arith) all)
+-- and the next precinct follows
+pub at_next : (h : Head) (s t u : Meaning) (p q : Place) (line : List ℕ) (es : List Event) → OrderSoFar h s t p es → line ≡ place_line h p → Step t (Wrote line) u → later h p ≡ q ∷ later h q → IsPrecinct h q
+    → OrderSoFar h s u q (es ++ Wrote line ∷ [])
+at_next h s t u p q line es o is step next place = record {
+  before = o.before ++ p ∷ [];
+  order = o.order ∙ (ap (λ (l : List Place). o.before ++ p ∷ l) next ∙ sym (append_assoc o.before (p ∷ []) (q ∷ later h q)));
+  place = place;
+  wrote = line_written h s t u p line es o is step;
+}
 
--- the lines of a packet order's precincts
-pub lines_in_order : (h g k : Head) (order places : List Place) → g ≡ h → k ≡ g → IsWithinLimits k → IsPacketOrder g order → places ≡ order → flat_map (place_line g) places ≡ order_lines h
-lines_in_order h g k order places e f limits is same =
-    let P : Head → Type 0 = λ x. IsWithinLimits x in
-    let all : places ≡ packet_order g = same ∙ ordered_is_computed g order (subst P f limits) is in
-    ap (λ l. flat_map (place_line g) l) all ∙ ap order_lines e
+-- or it was the last
+pub at_last : (h : Head) (s t u : Meaning) (p : Place) (line : List ℕ) (es : List Event) → OrderSoFar h s t p es → line ≡ place_line h p → Step t (Wrote line) u → later h p ≡ [] → Shows (order_lines h) s u Done (es ++ Wrote line ∷ [])
+at_last h s t u p line es o is step last =
+    orders (order_lines h) (flat_map (place_line h) (o.before ++ p ∷ [])) s u (es ++ Wrote line ∷ [])
+    (ap (λ (l : List Place). flat_map (place_line h) l) (sym (o.order ∙ ap (λ (l : List Place). o.before ++ p ∷ l) last))) (line_written h s t u p line es o is step)
+
+-- a prefix of the line was written
+pub line_broken : (h : Head) (s t u : Meaning) (p : Place) (line front rest : List ℕ) (es : List Event) → OrderSoFar h s t p es → line ≡ place_line h p → line ≡ front ++ rest → Step t (WriteFailed front) u
+    → Shows (order_lines h) s u WriteFault (es ++ WriteFailed front ∷ [])
+line_broken h s t u p line front rest es o is split step =
+    orders_front (order_lines h) (order_lines h) s u (es ++ WriteFailed front ∷ []) refl
+    (wrote_front (flat_map (place_line h) o.before) line front rest (flat_map (place_line h) (later h p)) (order_lines h) s t u es all split o.wrote step)
+  where
+    all : order_lines h ≡ (flat_map (place_line h) o.before ++ line) ++ flat_map (place_line h) (later h p)
+    all =
+        ap (λ (l : List Place). flat_map (place_line h) l) (o.order ∙ sym (append_assoc o.before (p ∷ []) (later h p)))
+        ∙ (flat_map-append (place_line h) (o.before ++ p ∷ []) (later h p)
+        ∙ ap (λ (l : List ℕ). l ++ flat_map (place_line h) (later h p)) (lines_more h o.before p ∙ ap (λ (l : List ℕ). flat_map (place_line h) o.before ++ l) (sym is)))

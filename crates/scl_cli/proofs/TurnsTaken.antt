@@ -10,27 +10,24 @@ use Rattle.wire_model.specs.Datagram.{rtp_payload, datagram_of}
 use Rattle.wire_model.specs.Thinning.{is_within}
 use Rattle.scl_outside.specs.Meaning.{Meaning}
 use Rattle.scl_outside.specs.Events.{Event}
-use Rattle.scl_outside.specs.Effects.{Effects, nothing}
+use Rattle.scl_outside.specs.Effects.{nothing, only_read, effects}
+use Rattle.capture_frames.proofs.ReadEffects.{reads_passed}
 use Rattle.scl_outside.specs.Traces.{AtReads}
-use Rattle.scl_outside.proofs.Traces.{trace_join, effects_then, at_reads_then, at_reads_map}
+use Rattle.scl_outside.proofs.Traces.{trace_join, effects_then, at_reads_then}
 use Rattle.scl_outside.specs.declared.duct.PutOut.TheVariants.{Done as Put, WriteFault as NotPut}
 use Rattle.capture_frames.specs.FramesState.{FramesState}
 use Rattle.capture_frames.specs.Reading.{ReadsFrame, InsideFrame, left_at, input_limit, state_after}
-use Rattle.capture_frames.specs.Writing.{Never}
+use Rattle.scl_outside.specs.Writing.{Never}
 use Rattle.capture_frames.specs.declared.reader.FrameOut.TheVariants.{Whole, Empty, Oversize, End, Cut, TooLong, ReadFault as NotRead}
-use Rattle.scl_cli.specs.declared.ending.Reason.TheVariants.{CutFrame, InputTooLong}
-use Rattle.scl_cli.specs.declared.ending.Ending.TheVariants.{Done, ReadFault, WriteFault, Refused}
-use Rattle.scl_cli.specs.declared.thinning.Turn.TheVariants.{Frame, Stop}
-use Rattle.scl_cli.specs.Performing.{passed}
-use Rattle.scl_cli.specs.Thinning.{Passes, Turns, Waiting, passed_of}
+use Rattle.scl_run.specs.declared.ending.Reason.TheVariants.{CutFrame, InputTooLong}
+use Rattle.scl_run.specs.declared.ending.Ending.TheVariants.{Done, ReadFault, WriteFault, Refused}
+use Rattle.scl_cli.specs.declared.thin.Turn.TheVariants.{Frame, Stop}
+use Rattle.scl_run.specs.Performing.{passed}
+use Rattle.scl_cli.specs.Thinning.{Passes, Turns, passed_of}
 
--- inside a frame nothing is written
-waits : (left : ℕ) (es : List Event) → AtReads (InsideFrame left) nothing es → AtReads (Waiting left) nothing es
-waits left es h = at_reads_map (InsideFrame left) (Waiting left) nothing es (λ f i. (i.1, i.2, ap (λ (x : Effects). x.written) i.0)) h
-
--- .. nor is it read for while a frame is written
-waits_both : (left : ℕ) (es fs : List Event) → AtReads (InsideFrame left) nothing es → AtReads Never nothing fs → AtReads (Waiting left) nothing (es ++ fs)
-waits_both left es fs h n = at_reads_then Never (Waiting left) es fs (waits left es h) (λ f i. absurd i) n
+-- while a frame is written nothing is read
+inside_both : (left : ℕ) (bytes : List ℕ) (es fs : List Event) → effects es ≡ only_read bytes → AtReads (InsideFrame left) nothing es → AtReads Never nothing fs → AtReads (InsideFrame left) nothing (es ++ fs)
+inside_both left bytes es fs is h n = at_reads_then Never (InsideFrame left) es fs h (reads_passed (effects es) bytes is) (λ f i. absurd i) n
 
 pub turn_done : (limit : ℕ) (before after : FramesState) (s t u : Meaning) (n : ℕ) (buf : List ℕ) (es fs : List Event) → length buf ≡ 9000 → after ≡ state_after before (Whole n) → after.offset ≤ input_limit → before.live ≡ true
     → ReadsFrame before.offset s t (Whole n) buf es → Passes limit t u Put (take n buf) fs → Turns limit before after s u Frame (es ++ fs)
@@ -40,7 +37,7 @@ turn_done limit before after s t u n buf es fs big is within live a b =
     let far : after.offset ≡ before.offset + (2 + n) = ap (λ (x : FramesState). x.offset) is in
     record {
       trace = trace_join s t u es fs a.trace b.trace;
-      within = waits_both (left_at before.offset) es fs a.within b.within;
+      within = inside_both (left_at before.offset) (frame (take n buf)) es fs a.gives.3 a.within b.within;
       gives = (
         take n buf,
         omega arith,
@@ -59,7 +56,7 @@ turn_broken limit before after s t u n buf es fs big a b =
     let room : 2 + n ≤ left_at before.offset = a.gives.2 in
     record {
       trace = trace_join s t u es fs a.trace b.trace;
-      within = waits_both (left_at before.offset) es fs a.within b.within;
+      within = inside_both (left_at before.offset) (frame (take n buf)) es fs a.gives.3 a.within b.within;
       gives = (
         take n buf,
         b.gives.0,
@@ -77,7 +74,7 @@ turn_empty limit before after s t buf es is within live a =
     let far : after.offset ≡ before.offset + 2 = ap (λ (x : FramesState). x.offset) is in
     record {
       trace = a.trace;
-      within = waits (left_at before.offset) es a.within;
+      within = a.within;
       gives = ([], omega arith, omega arith, within, ap (λ (x : FramesState). x.live) is ∙ live, a.gives.1);
     }
 
@@ -99,7 +96,7 @@ turn_oversize limit before after s t n buf es is within live a =
     let far : after.offset ≡ before.offset + (2 + n) = ap (λ (x : FramesState). x.offset) is in
     record {
       trace = a.trace;
-      within = waits (left_at before.offset) es a.within;
+      within = a.within;
       gives = (
         a.gives.0,
         omega arith,
@@ -111,16 +108,16 @@ turn_oversize limit before after s t n buf es is within live a =
     }
 
 pub turn_end : (limit : ℕ) (before after : FramesState) (s t : Meaning) (buf : List ℕ) (es : List Event) → ReadsFrame before.offset s t End buf es → Turns limit before after s t (Stop Done) es
-turn_end limit before after s t buf es a = record { trace = a.trace; within = waits (left_at before.offset) es a.within; gives = a.gives }
+turn_end limit before after s t buf es a = record { trace = a.trace; within = a.within; gives = a.gives }
 
 pub turn_cut : (limit : ℕ) (before after : FramesState) (s t : Meaning) (at : ℕ) (buf : List ℕ) (es : List Event) → ReadsFrame before.offset s t (Cut at) buf es
     → Turns limit before after s t (Stop (Refused (record { at = at; reason = CutFrame }))) es
-turn_cut limit before after s t at buf es a = record { trace = a.trace; within = waits (left_at before.offset) es a.within; gives = a.gives }
+turn_cut limit before after s t at buf es a = record { trace = a.trace; within = a.within; gives = a.gives }
 
 pub turn_past : (limit : ℕ) (before after : FramesState) (s t : Meaning) (buf : List ℕ) (es : List Event) → ReadsFrame before.offset s t TooLong buf es
     → Turns limit before after s t (Stop (Refused (record { at = 1099511627776; reason = InputTooLong }))) es
 turn_past limit before after s t buf es a =
-    record { trace = a.trace; within = waits (left_at before.offset) es a.within; gives = (a.gives.0, refl, a.gives.1, a.gives.2, a.gives.3) }
+    record { trace = a.trace; within = a.within; gives = (a.gives.0, refl, a.gives.1, a.gives.2, a.gives.3) }
 
 pub turn_failed : (limit : ℕ) (before after : FramesState) (s t : Meaning) (buf : List ℕ) (es : List Event) → ReadsFrame before.offset s t NotRead buf es → Turns limit before after s t (Stop ReadFault) es
-turn_failed limit before after s t buf es a = record { trace = a.trace; within = waits (left_at before.offset) es a.within; gives = a.gives }
+turn_failed limit before after s t buf es a = record { trace = a.trace; within = a.within; gives = a.gives }

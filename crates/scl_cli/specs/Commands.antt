@@ -1,20 +1,73 @@
 -- The grammar of a command line.
-use Rattle.std.specs.Prelude.{◌≡◌, ◌≤◌, ℕ, List, [], ◌∷◌, codes, decimal}
+use Rattle.std.specs.Prelude.{◌≡◌, ◌≤◌, ◌<◌, ◌^◌, ℕ, List, [], ◌∷◌, Option, Some, None, codes, decimal}
+use Rattle.stream_receiver.specs.declared.pick.Pick.{Pick}
 use Rattle.scl_cli.specs.declared.command.Command.{Command}
-use Rattle.scl_cli.specs.declared.command.Command.TheVariants.{Thin, Show}
-use Rattle.scl_cli.specs.declared.command.View.{View}
-use Rattle.scl_cli.specs.declared.command.View.TheVariants.{Head, Order}
+use Rattle.scl_cli.specs.declared.command.Command.TheVariants.{Thin, Head, Order, Parse, Report}
+use Rattle.scl_cli.specs.declared.command.Stamps.{Stamps}
+use Rattle.scl_cli.specs.declared.command.Verb.{Verb}
+use Rattle.scl_cli.specs.declared.command.Verb.TheVariants as verb
 
--- the word for a view of a main header
-abbrev pub view_word : View → List ℕ
-view_word Head = codes "head"
-view_word Order = codes "order"
+-- The first word of a command.
+abbrev pub verb_word : Verb → List ℕ
+verb_word verb.Thin = codes "thin"
+verb_word verb.Head = codes "head"
+verb_word verb.Order = codes "order"
+verb_word verb.Parse = codes "parse"
+verb_word verb.Report = codes "report"
 
--- the words spell this command; a number is its decimal digits
+-- The ranges of a timestamp and of a step.
+pub record IsStamps (stamps : Stamps) : Type 0 where
+  pub first : stamps.first < 2 ^ 32
+  pub some : 1 ≤ stamps.step
+  pub step : stamps.step < 2 ^ 16
+
+-- The word of a source: its SSRC, or `any`.
+abbrev pub source_word : Option ℕ → List ℕ
+source_word None = codes "any"
+source_word (Some source) = decimal source
+
+-- An SSRC has 32 bits.
+abbrev pub IsSource : Option ℕ → Type 0
+IsSource None = Unit {0}
+IsSource (Some source) = source < 2 ^ 32
+
+-- The ranges of a payload type, a source and a window.
+pub record IsPick (pick : Pick) : Type 0 where
+  pub kind : pick.kind ≤ 127
+  pub source : IsSource pick.source
+  pub some : 1 ≤ pick.window
+  pub few : pick.window ≤ 16384
+
+-- How a command is spelt: its first word, the other words, and the ranges of its values.
+pub record Form : Type 1 where
+  pub verb : Verb
+  pub values : List (List ℕ)
+  pub IsInRange : Type 0
+
+-- The form of each command; a number is spelt in decimal digits without a leading zero.
+abbrev pub form : Command → Form
+form (Thin limit) = record { verb = verb.Thin; values = decimal limit ∷ []; IsInRange = limit ≤ 7 }
+form Head = record { verb = verb.Head; values = []; IsInRange = Unit {0} }
+form Order = record { verb = verb.Order; values = []; IsInRange = Unit {0} }
+form (Parse stamps) = record { verb = verb.Parse; values = decimal stamps.first ∷ decimal stamps.step ∷ []; IsInRange = IsStamps stamps }
+form (Report pick) = record { verb = verb.Report; values = decimal pick.kind ∷ source_word pick.source ∷ decimal pick.window ∷ []; IsInRange = IsPick pick }
+
+-- The first word of a command, as a name.
+abbrev pub verb_of : Command → Verb
+verb_of command = (form command).verb
+
+-- The words of a command.
+abbrev pub words_of : Command → List (List ℕ)
+words_of command = verb_word (form command).verb ∷ (form command).values
+
+-- The words spell this command.
 abbrev pub Spells : Command → List (List ℕ) → Type 0
-Spells (Thin limit) words = (limit ≤ 7) × (words ≡ codes "thin" ∷ decimal limit ∷ [])
-Spells (Show view) words = words ≡ view_word view ∷ []
+Spells command words = (form command).IsInRange × (words ≡ words_of command)
 
--- the words aren't in the grammar
+-- The words are outside the grammar.
 abbrev pub SpellsNothing : List (List ℕ) → Type 0
 SpellsNothing words = (command : Command) → Spells command words → ⊥
+
+-- The words begin with the first word of a command.
+abbrev pub Begins : Verb → List (List ℕ) → Type 0
+Begins v words = (more : List (List ℕ)) × (words ≡ verb_word v ∷ more)

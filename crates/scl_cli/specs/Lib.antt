@@ -1,11 +1,12 @@
 pub mod Commands
-pub mod Reasons
-pub mod Endings
 pub mod HeadLines
 pub mod OrderLines
-pub mod Made
-pub mod Performing
+pub mod ThinJob
+pub mod HeaderJobs
+pub mod Jobs
 pub mod Thinning
 pub mod Finding
 pub mod Showing
 pub mod Runs
+pub mod ReportPromise
+pub mod MachineMeaning

@@ -1,27 +1,62 @@
 //! The grammar of a command line.
-ghost use Rattle.std.specs.Prelude.{◌≡◌, ◌≤◌, ◌<◌, ◌∷◌, [], ◌+◌, List, ℕ, IfSome, Some, codes, slice_get, length};
+ghost use Rattle.std.specs.Prelude.{◌≡◌, ◌∷◌, IfSome, Some, List};
 ghost use Rattle.scl_cli.specs.declared.command.Command.{Command};
-ghost use Rattle.scl_cli.specs.declared.command.View.{View};
-ghost use Rattle.scl_cli.specs.Commands.{Spells, view_word};
+ghost use Rattle.scl_cli.specs.declared.command.Verb.{Verb};
+ghost use Rattle.scl_cli.specs.Commands.{Spells, verb_word};
 
 use crate::Words;
+use crate::head::head_of;
+use crate::order::order_of;
+use crate::parse::parse_of;
+use crate::report::report_of;
+use crate::thin::thin_of;
+use stream_receiver::Pick;
 
 /// What the program is asked to do.
 #[derive(Clone, Copy, Debug, PartialEq, Eq)]
 pub enum Command {
     /// `thin T`: pass on the frames of a capture that serve a receiver with the limit T, 0 to 7.
     Thin(u8),
-    /// `head` or `order`: show the main header at the front of the input in this view.
-    Show(View),
+    /// `head`: show the values of the main header at the front of the input.
+    Head,
+    /// `order`: show its precincts in the order of their packets.
+    Order,
+    /// `parse STAMP STEP`: write the lines of the packets of codestreams.
+    Parse(Stamps),
+    /// `report KIND SOURCE WINDOW`: write the lines of the precincts that a capture gives of a stream.
+    Report(Pick),
 }
 
-/// What is shown of a main header.
+/// The timestamps of codestreams: that of the first, and the step from one to the next, at least 1, modulo 2^32.
 #[derive(Clone, Copy, Debug, PartialEq, Eq)]
-pub enum View {
-    /// `head`: its values.
+pub struct Stamps {
+    pub first: u32,
+    pub step: u16,
+}
+
+/// The first word of a command.
+#[derive(Clone, Copy, Debug, PartialEq, Eq)]
+pub enum Verb {
+    Thin,
     Head,
-    /// `order`: its precincts in the order of their packets.
     Order,
+    Parse,
+    Report,
+}
+
+/// The command that a word begins.
+fn verb_in(word: &str) -> Option<Verb>
+    ensures named { IfSome result (λ verb. word.now ≡ verb_word verb) }
+    ensures all { (verb : Verb) → word.now ≡ verb_word verb → result ≡ Some verb }
+{
+    match word {
+        "thin" => Some(Verb::Thin),
+        "head" => Some(Verb::Head),
+        "order" => Some(Verb::Order),
+        "parse" => Some(Verb::Parse),
+        "report" => Some(Verb::Report),
+        _ => None,
+    }
 }
 
 /// The command that the words spell.
@@ -29,55 +64,14 @@ pub fn command_of(words: &Words) -> Option<Command>
     ensures spelt { IfSome result (λ command. Spells command words.now) }
     ensures all { (command : Command) → Spells command words.now → result ≡ Some command }
 {
-    match words.len() {
-        1 => command_alone(words),
-        2 => command_to_thin(words),
-        _ => None,
-    }
-}
-
-/// The command that one word spells.
-fn command_alone(words: &Words) -> Option<Command>
-    requires { length words.now ≡ 1 }
-    ensures spelt { IfSome result (λ command. Spells command words.now) }
-    ensures all { (command : Command) → Spells command words.now → result ≡ Some command }
-{
-    let view = view_of(words.get(0))?;
-    Some(Command::Show(view))
-}
-
-/// The command that two words spell.
-fn command_to_thin(words: &Words) -> Option<Command>
-    requires { length words.now ≡ 2 }
-    ensures spelt { IfSome result (λ command. Spells command words.now) }
-    ensures all { (command : Command) → Spells command words.now → result ≡ Some command }
-{
-    if words.get(0) != "thin" {
+    if words.is_empty() {
         return None;
     }
-    let limit = limit_of(words.get(1))?;
-    Some(Command::Thin(limit))
-}
-
-/// The view that a word names.
-fn view_of(word: &str) -> Option<View>
-    ensures named { IfSome result (λ view. word.now ≡ view_word view) }
-    ensures all { (view : View) → word.now ≡ view_word view → result ≡ Some view }
-{
-    match word {
-        "head" => Some(View::Head),
-        "order" => Some(View::Order),
-        _ => None,
-    }
-}
-
-/// A limit, 0 to 7, in one digit.
-fn limit_of(word: &str) -> Option<u8>
-    ensures spelt { IfSome result (λ limit. (limit ≤ 7) × (word.now ≡ (48 + limit) ∷ [])) }
-    ensures all { (limit : ℕ) → limit ≤ 7 → word.now ≡ (48 + limit) ∷ [] → result ≡ Some limit }
-{
-    match word.as_bytes() {
-        [digit @ b'0'..=b'7'] => Some(*digit - b'0'),
-        _ => None,
+    match verb_in(words.get(0))? {
+        Verb::Thin => thin_of(words),
+        Verb::Head => head_of(words),
+        Verb::Order => order_of(words),
+        Verb::Parse => parse_of(words),
+        Verb::Report => report_of(words),
     }
 }

@@ -2,22 +2,25 @@
 #![tactic(auto)]
 
 mod command;
-mod ending;
-mod finding;
+mod head;
 mod head_lines;
+mod header_input;
 mod machine;
+mod numbers;
+mod order;
 mod order_lines;
-mod reasons;
-mod running;
-mod showing;
+mod parse;
+mod report;
+mod socket;
 mod texts;
-mod thinning;
+mod thin;
+mod top_call;
 mod words;
 
-pub use command::{Command, View};
-pub use ending::{Ending, Reason, Refusal};
+pub use command::{Command, Stamps, Verb};
 pub use machine::Machine;
-pub use running::run;
+pub use scl_run::{Ending, Reason, Refusal};
+pub use top_call::run;
 pub use words::Words;
 
 #[cfg(test)]

@@ -1,22 +1,18 @@
-//! The lines that show the packet order of a main header.
-ghost use Rattle.std.specs.Prelude.{◌≡◌, List, map};
-ghost use Rattle.std.specs.List.{All, flat_map};
+//! The line that shows a precinct of the packet order.
+ghost use Rattle.std.specs.Prelude.{◌≡◌};
 ghost use Rattle.codestream_model.specs.Precincts.{IsPrecinct};
 ghost use Rattle.precinct_geometry.specs.Spans.{place_of};
-ghost use Rattle.scl_outside.specs.Events.{Event};
 ghost use Rattle.scl_cli.specs.OrderLines.{place_line};
-ghost use Rattle.scl_cli.specs.Showing.{WritesLines};
 
 use crate::texts::push_number;
 use arrayvec::ArrayString;
 use precinct_geometry::{Geometry, Place};
-use scl_outside::{Duct, PutOut, WriteOut};
 
 /// A line of a precinct: its six numbers have at most twenty digits each.
 type Line = ArrayString<160>;
 
-/// The line of a precinct, which the image has.
-fn line_of(geometry: &Geometry, place: Place) -> Line
+/// The line of a precinct of the image.
+pub fn line_of(geometry: &Geometry, place: Place) -> Line
     requires { IsPrecinct geometry.now (place_of place) }
     ensures { result.bytes ≡ place_line geometry.now (place_of place) }
 {
@@ -30,18 +26,4 @@ fn line_of(geometry: &Geometry, place: Place) -> Line
     push_number(&mut line, " x=", x);
     line.push_str("\n");
     line
-}
-
-/// Writes a line for each of these precincts, which the image has.
-pub fn write_lines<D: Duct>(geometry: &Geometry, places: &[Place], out: &mut D) -> PutOut
-    requires { All (IsPrecinct geometry.now) (map place_of places.now) }
-    ensures { (es : List Event) × WritesLines (flat_map (place_line geometry.now) (map place_of places.now)) (D.meaning out.old) (D.meaning out.new) result es }
-{
-    for place in places {
-        match out.write(line_of(geometry, *place).as_bytes()) {
-            WriteOut::Done => {}
-            WriteOut::Failed => return PutOut::WriteFault,
-        }
-    }
-    PutOut::Done
 }

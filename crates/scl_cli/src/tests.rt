@@ -1,7 +1,11 @@
 //! The worked captures through the top call, over objects in memory.
+ghost use Rattle.std.specs.Prelude.{◌≡◌, ◌≤◌, IfOk};
+ghost use Rattle.std.specs.List.{All};
+ghost use Rattle.scl_outside.specs.Memory.{outside_meaning};
+
 use super::*;
 use captures::{CAPTURE_A, CAPTURE_B};
-use scl_outside::{Duct, DuctMem, NeverFails};
+use scl_outside::{DuctMem, NeverFails, OutsideMem};
 use std::alloc::{AllocError, Global};
 use std::process::Abort;
 use std::test::Fail;
@@ -11,6 +15,8 @@ mod headers;
 mod hostile;
 mod machines;
 mod orders;
+mod parses;
+mod reports;
 mod sure;
 
 const ROOM: usize = 10_000;
@@ -23,6 +29,21 @@ fn words_of(alloc: Global, texts: &[&str]) -> Result<Words, AllocError> {
     Ok(words)
 }
 
+/// An outside over an input, without peers and with nothing on its wire.
+fn outside_over(
+    alloc: Global,
+    input: &[u8],
+    chunks: &[usize],
+    bad_reads: &[u64],
+    bad_writes: &[u64],
+) -> Result<OutsideMem, AllocError>
+    requires chunks { All (λ chunk. 1 ≤ chunk) chunks.now }
+    ensures peers { IfOk result (λ o. (outside_meaning o).wire.peers ≡ 0) }
+{
+    let duct = DuctMem::new(alloc, input, chunks, bad_reads, bad_writes, ROOM)?;
+    OutsideMem::new(alloc, duct, Vec::new(alloc), Vec::new(alloc), &[], ROOM)
+}
+
 /// The status of a run, and the object that it ran over.
 fn run_over(
     alloc: Global,
@@ -30,18 +51,18 @@ fn run_over(
     input: &[u8],
     bad_reads: &[u64],
     bad_writes: &[u64],
-) -> Result<(u8, DuctMem), AllocError> {
+) -> Result<(u8, OutsideMem), AllocError> {
     let words = words_of(alloc, texts)?;
-    let mut duct = DuctMem::new(alloc, input, &[], bad_reads, bad_writes, ROOM)?;
-    let status = run(alloc, &words, &mut duct);
-    Ok((status, duct))
+    let mut out = outside_over(alloc, input, &[], bad_reads, bad_writes)?;
+    let status = run(alloc, &words, &mut out);
+    Ok((status, out))
 }
 
 #[test]
 fn words_outside_the_grammar_are_named_and_nothing_else_is_done(
     rt: HostRuntime,
 ) -> Result<(), Fail> {
-    let cases: [&[&str]; 14] = [
+    let cases: [&[&str]; 30] = [
         &[],
         &["thin"],
         &["thin", "8"],
@@ -56,6 +77,22 @@ fn words_outside_the_grammar_are_named_and_nothing_else_is_done(
         &["order", "x"],
         &["Order"],
         &["--help"],
+        &["report", "96", "any"],
+        &["report", "96", "any", "16", "1"],
+        &["report", "128", "any", "16"],
+        &["report", "096", "any", "16"],
+        &["report", "96", "Any", "16"],
+        &["report", "96", "4294967296", "16"],
+        &["report", "96", "+1", "16"],
+        &["report", "96", "any", "0"],
+        &["report", "96", "any", "16385"],
+        &["report", "96", "any", ""],
+        &["parse", "0"],
+        &["parse", "0", "3600", "1"],
+        &["parse", "4294967296", "3600"],
+        &["parse", "00", "3600"],
+        &["parse", "0", "0"],
+        &["parse", "0", "65536"],
     ];
     for (row, texts) in cases.iter().enumerate() {
         let (status, duct) = run_over(rt.alloc(), texts, &CAPTURE_A, &[], &[])?;

@@ -1,11 +1,12 @@
 -- What a list of calls does to what is told.
-use Rattle.std.proofs.Common.{◌≡◌, ℕ, List, [], ◌∷◌, ◌++◌, Bool, true, false, ◌||◌, Option, Some, None, refl, sym, ◌∙◌, ap, subst, append_assoc, arith}
+use Rattle.std.proofs.Common.{◌≡◌, ◌≤◌, ℕ, List, [], ◌∷◌, ◌++◌, Bool, true, false, ◌||◌, Option, Some, None, refl, sym, ◌∙◌, ap, subst, append_assoc, arith}
 use Rattle.std.proofs.lemmas.List.{append-nil}
 use Rattle.wire_model.specs.Causes.{Grew, Fell}
 use Rattle.scl_outside.specs.Meaning.{Meaning, Wire}
-use Rattle.scl_outside.specs.Events.{Event, WireEvent, Took, Ended, ReadFailed, Wrote, WriteFailed, Noted, OnWire, taken_by, written_by, noted_by, wire_by, read_fails, write_fails}
-use Rattle.scl_outside.specs.Steps.{Step, Moves, Loses, Counts, WireTrace}
-use Rattle.scl_outside.specs.Effects.{Effects, nothing, effect_of, and_then, effects}
+use Rattle.std.specs.Prelude.{MatchBool, IfSome}
+use Rattle.scl_outside.specs.Events.{Event, WireEvent, Took, Ended, ReadFailed, Wrote, WriteFailed, Noted, OnWire, taken_by, written_by, noted_by, wire_by, is_end, read_fails, write_fails, wire_fails}
+use Rattle.scl_outside.specs.Steps.{Step, Moves, Loses, Counts, KeepsWire, WireStep, WireTrace}
+use Rattle.scl_outside.specs.Effects.{Effects, nothing, effect_of, and_then, effects, wire_failed}
 use Rattle.scl_outside.specs.Traces.{Trace, Affects}
 
 -- growth, one after another
@@ -55,9 +56,66 @@ counts_join true false x y z p q = (omega arith, omega arith)
 counts_join false true x y z p q = (omega arith, omega arith)
 counts_join false false x y z p q = omega arith
 
+counts_after : (f : Bool) (x y z : ℕ) → x ≤ y → Counts f y z → Counts f x z
+counts_after true x y z p q = (omega arith, omega arith)
+counts_after false x y z p q = omega arith
+
+moves_after : {A : Type 0} (a b c : Option (List A)) (o : Option (List A)) → b ≡ a → Moves b c o → Moves a c o
+moves_after {A} a b c o e h = let P : Option (List A) → Type 0 = λ x. Moves x c o in subst P e h
+
+loses_after : {A : Type 0} (a b c : Option (List A)) (o : Option (List A)) → b ≡ a → Loses b c o → Loses a c o
+loses_after {A} a b c o e h = let P : Option (List A) → Type 0 = λ x. Loses x c o in subst P e h
+
+-- a wire that stays as it is
+pub keeps_same : (a : Wire) → KeepsWire a a
+keeps_same a = record {
+  inbound = refl;
+  received = refl;
+  sent = refl;
+  replies = refl;
+  bound = refl;
+  joined = refl;
+  peers = refl;
+  faults = omega arith;
+  peer_faults = λ peer. omega arith;
+}
+
+pub keeps_join : (a b c : Wire) → KeepsWire a b → KeepsWire b c → KeepsWire a c
+keeps_join a b c h k = record {
+  inbound = k.inbound ∙ h.inbound;
+  received = k.received ∙ h.received;
+  sent = k.sent ∙ h.sent;
+  replies = k.replies ∙ h.replies;
+  bound = k.bound ∙ h.bound;
+  joined = k.joined ∙ h.joined;
+  peers = k.peers ∙ h.peers;
+  faults = (let p = h.faults in let q = k.faults in omega arith);
+  peer_faults = λ peer. (let p = h.peer_faults peer in let q = k.peer_faults peer in omega arith);
+}
+
+-- a call of the wire after others that aren't
+keeps_step : (a b c : Wire) (w : WireEvent) → KeepsWire a b → WireStep b w c → WireStep a w c
+keeps_step a b c w k h = record {
+  inbound = loses_after a.inbound b.inbound c.inbound _ k.inbound h.inbound;
+  received = moves_after a.received b.received c.received _ k.received h.received;
+  sent = moves_after a.sent b.sent c.sent _ k.sent h.sent;
+  replies = moves_after a.replies b.replies c.replies _ k.replies h.replies;
+  bound = moves_after a.bound b.bound c.bound _ k.bound h.bound;
+  joined = moves_after a.joined b.joined c.joined _ k.joined h.joined;
+  peers = (let p = h.peers in let q = k.peers in omega arith);
+  faults = counts_after _ a.faults b.faults c.faults k.faults h.faults;
+  peer_faults = λ peer. counts_after _ (a.peer_faults peer) (b.peer_faults peer) (c.peer_faults peer) (k.peer_faults peer) (h.peer_faults peer);
+}
+
 pub wire_join : (a b c : Wire) (vs ws : List WireEvent) → WireTrace a vs b → WireTrace b ws c → WireTrace a (vs ++ ws) c
-wire_join a b c [] ws e more = let P : Wire → Type 0 = λ x. WireTrace x ws c in subst P e more
+wire_join a b c [] [] k more = keeps_join a b c k more
+wire_join a b c [] (w ∷ ws) k (m, step, rest) = (m, keeps_step a b m w k step, rest)
 wire_join a b c (v ∷ vs) ws (m, step, rest) more = (m, step, wire_join m b c vs ws rest more)
+
+-- the count of faults of the wire, over calls of it
+pub wire_counts : (s t : Wire) (ws : List WireEvent) → WireTrace s ws t → Counts (wire_failed ws) s.faults t.faults
+wire_counts s t [] k = k.faults
+wire_counts s t (w ∷ ws) (m, step, rest) = counts_join (wire_fails w) (wire_failed ws) s.faults m.faults t.faults step.faults (wire_counts m t ws rest)
 
 -- a call's effects are what the call is about
 read_is : (e : Event) → items_of (taken_by e) ≡ (effect_of e).read
@@ -96,6 +154,26 @@ wire_is (WriteFailed bytes) = refl
 wire_is (Noted line) = refl
 wire_is (OnWire w) = refl
 
+ended_is : (e : Event) → is_end e ≡ (effect_of e).ended
+ended_is (Took bytes) = refl
+ended_is Ended = refl
+ended_is ReadFailed = refl
+ended_is (Wrote bytes) = refl
+ended_is (WriteFailed bytes) = refl
+ended_is (Noted line) = refl
+ended_is (OnWire w) = refl
+
+-- an input that is over stays over
+rest_none : (xs ys : List ℕ) → xs ++ ys ≡ [] → ys ≡ []
+rest_none [] ys e = e
+rest_none (x ∷ xs) ys e = absurd (cc)
+
+over_join : (a b : Bool) (m u : Option (List ℕ)) (xs : List ℕ) → MatchBool a (IfSome m (λ rest. rest ≡ [])) (Unit {0}) → Fell m u xs → MatchBool b (IfSome u (λ rest. rest ≡ [])) (Unit {0}) → MatchBool (a || b) (IfSome u (λ rest. rest ≡ [])) (Unit {0})
+over_join false b m u xs p f q = q
+over_join true b m None xs p f q = tt
+over_join true b None (Some z) xs p f q = absurd f
+over_join true b (Some y) (Some z) xs p f q = rest_none xs z (sym f ∙ p)
+
 read_fails_is : (e : Event) → read_fails e ≡ (effect_of e).read_failed
 read_fails_is (Took bytes) = refl
 read_fails_is Ended = refl
@@ -119,6 +197,7 @@ pub step_affects : (s : Meaning) (e : Event) (t : Meaning) → Step s e t → Af
 step_affects s e t step = record {
   read = rw (read_is e) at (moved s.read t.read (taken_by e) step.read);
   left = rw (read_is e) at (lost s.left t.left (taken_by e) step.left);
+  over = rw (ended_is e) at step.over;
   written = rw (written_is e) at (moved s.written t.written (written_by e) step.written);
   noted = rw (noted_is e) at (moved s.noted t.noted (noted_by e) step.noted);
   wire = rw (wire_is e) at step.wire;
@@ -131,6 +210,7 @@ pub affects_join : (s t u : Meaning) (f g : Effects) → Affects s f t → Affec
 affects_join s t u f g a b = record {
   read = grew_join s.read t.read u.read f.read g.read a.read b.read;
   left = fell_join s.left t.left u.left f.read g.read a.left b.left;
+  over = over_join f.ended g.ended t.left u.left g.read a.over b.left b.over;
   written = grew_join s.written t.written u.written f.written g.written a.written b.written;
   noted = grew_join s.noted t.noted u.noted f.noted g.noted a.noted b.noted;
   wire = wire_join s.wire t.wire u.wire f.wire g.wire a.wire b.wire;
@@ -142,9 +222,10 @@ pub affects_none : (s : Meaning) → Affects s nothing s
 affects_none s = record {
   read = grew_none s.read;
   left = fell_none s.left;
+  over = tt;
   written = grew_none s.written;
   noted = grew_none s.noted;
-  wire = refl;
+  wire = keeps_same s.wire;
   read_faults = omega arith;
   write_faults = omega arith;
 }

@@ -2,3 +2,11 @@ pub mod InMemory
 pub mod Traces
 pub mod Affects
 pub mod Prompted
+pub mod TextsCut
+pub mod Named
+pub mod Received
+pub mod WireSteps
+pub mod FreshWires
+pub mod MemorySteps
+pub mod SureSteps
+pub mod Failing

@@ -1,95 +1,93 @@
 -- From what held before each read of a list of calls to what its marks say.
-use Rattle.std.proofs.Common.{◌≡◌, ℕ, List, [], ◌∷◌, ◌++◌, Bool, true, false, length, take, drop, Option, Some, None, IfSome, refl, sym, ◌∙◌, ap, append_assoc}
+use Rattle.std.proofs.Common.{◌≡◌, ℕ, List, [], ◌∷◌, Bool, true, false, length, Option, Some, None, IfSome, refl, sym, ◌∙◌, ap, subst}
 use Rattle.std.specs.Prelude.{MatchBool}
-use Rattle.std.specs.List.{AllByRecursion}
+use Rattle.std.specs.List.{AllByRecursion, flat_map}
 use Rattle.std.proofs.lemmas.List.{append-nil, take_at, drop_at}
+use Rattle.std.proofs.lemmas.List.Concat.{flat_map-append}
 use Rattle.wire_model.specs.Causes.{Grew}
-use Rattle.scl_outside.specs.Meaning.{Meaning}
-use Rattle.scl_outside.specs.Events.{Event, asks}
-use Rattle.scl_outside.specs.Steps.{Marks}
-use Rattle.scl_outside.specs.Effects.{Effects, nothing, effect_of, and_then, effects}
-use Rattle.scl_outside.specs.Traces.{Trace, AtReads}
-use Rattle.scl_outside.specs.Prompt.{AtMarks, Prompt}
+use Rattle.wire_model.specs.Link.{Reception, Sent, Busy, Broken}
+use Rattle.scl_outside.specs.Meaning.{Meaning, Wire, Parcel}
+use Rattle.scl_outside.specs.Events.{Event, WireEvent, Received, Offered, Bound, Joined, asks, datagram_in, received_by, arrivals_by, sent_by, parcels_by}
+use Rattle.scl_outside.specs.Steps.{Marks, IsMarkOf, Moves, datagrams_of, WireTrace}
+use Rattle.scl_outside.specs.Effects.{Effects, nothing, effect_of, and_then, effects, arrivals, parcels}
+use Rattle.scl_outside.specs.Traces.{Trace, AtReads, Affects}
+use Rattle.scl_outside.specs.Prompt.{IsPart, IsDoneBy, Prompt}
 use Rattle.scl_outside.specs.declared.duct.Mark.{Mark}
-use Rattle.scl_outside.proofs.Affects.{grew_join, grew_same, step_affects, trace_affects}
+use Rattle.scl_outside.proofs.Affects.{grew_join, grew_same, step_affects, affects_join, affects_none, trace_affects}
 
--- what is told in the end was told before
-grew_some : (o p : Option (List ℕ)) (xs now : List ℕ) → Grew o p xs → p ≡ Some now → (was : List ℕ) × (o ≡ Some was) × (now ≡ was ++ xs)
-grew_some o None xs now g e = absurd (cc)
-grew_some None (Some y) xs now g e = absurd g
-grew_some (Some x) (Some y) xs now g e = (x, refl, (let f : now ≡ y = cc in f) ∙ g)
+-- datagrams that came, and then others
+datagrams_grew : (o p : Option (List Reception)) (rs : List Reception) → Grew o p rs → Grew (datagrams_of o) (datagrams_of p) (flat_map datagram_in rs)
+datagrams_grew o None rs g = tt
+datagrams_grew None (Some y) rs g = absurd g
+datagrams_grew (Some x) (Some y) rs g = ap (λ (l : List Reception). flat_map datagram_in l) g ∙ flat_map-append datagram_in x rs
 
--- between two tellings
-between : (o m p : Option (List ℕ)) (xs ys was now : List ℕ) → o ≡ Some was → Grew o m xs → Grew m p ys → p ≡ Some now → (m ≡ Some (was ++ xs)) × (now ≡ was ++ (xs ++ ys))
-between o m p xs ys was now oe g h pe =
-    let later = grew_some m p ys now h pe in
-    let earlier = grew_some o m xs later.0 g later.1 in
-    let same : earlier.0 ≡ was = (let f : Some earlier.0 ≡ Some was = sym earlier.1 ∙ oe in cc) in
-    let mid : later.0 ≡ was ++ xs = earlier.2 ∙ ap (λ (l : List ℕ). l ++ xs) same in
-    (later.1 ∙ ap (λ (l : List ℕ). Some l) mid, later.2 ∙ ap (λ (l : List ℕ). l ++ ys) mid ∙ append_assoc was xs ys)
+one_arrival : (w : WireEvent) (o p : Option (List Reception)) → Moves o p (received_by w) → Grew (datagrams_of o) (datagrams_of p) (arrivals_by w)
+one_arrival (Received r) o p h = let P : List (List ℕ) → Type 0 = λ l. Grew (datagrams_of o) (datagrams_of p) l in subst P (append-nil (datagram_in r)) (datagrams_grew o p (r ∷ []) h)
+one_arrival (Offered parcel answer) o p h = grew_same (datagrams_of o) (datagrams_of p) (ap datagrams_of h)
+one_arrival (Bound text done) o p h = grew_same (datagrams_of o) (datagrams_of p) (ap datagrams_of h)
+one_arrival (Joined text done) o p h = grew_same (datagrams_of o) (datagrams_of p) (ap datagrams_of h)
 
-at_end : (o : Option (List ℕ)) (n : ℕ) (was : List ℕ) → IfSome o (λ bytes. n ≡ length bytes) → o ≡ Some was → n ≡ length was
-at_end None n was f e = absurd (cc)
-at_end (Some x) n was f e = f ∙ ap (λ (l : List ℕ). length l) (let g : x ≡ was = cc in g)
+-- what calls of the wire brought in
+pub arrived : (s t : Wire) (ws : List WireEvent) → WireTrace s ws t → Grew (datagrams_of s.received) (datagrams_of t.received) (arrivals ws)
+arrived s t [] k = grew_same (datagrams_of s.received) (datagrams_of t.received) (ap datagrams_of k.received)
+arrived s t (w ∷ ws) (m, step, rest) =
+    grew_join (datagrams_of s.received) (datagrams_of m.received) (datagrams_of t.received) (arrivals_by w) (arrivals ws) (one_arrival w s.received m.received step.received) (arrived m t ws rest)
 
--- the part of what there is in the end that a mark names
-part : (start mine more now : List ℕ) (n : ℕ) → now ≡ (start ++ mine) ++ more → n ≡ length (start ++ mine) → drop (length start) (take n now) ≡ mine
-part start mine more now n e k = rw (e, take_at (start ++ mine) more n (sym k), drop_at start mine (length start) refl) refl
+one_sent : (w : WireEvent) (o p : Option (List Parcel)) → Moves o p (sent_by w) → Grew o p (parcels_by w)
+one_sent (Received r) o p h = grew_same o p h
+one_sent (Offered parcel Sent) o p h = h
+one_sent (Offered parcel Busy) o p h = h
+one_sent (Offered parcel Broken) o p h = h
+one_sent (Bound text done) o p h = grew_same o p h
+one_sent (Joined text done) o p h = grew_same o p h
 
--- the marks of one call, before those of the calls after it
-abbrev pub Marked : (List ℕ → List ℕ → Type 0) → Meaning → Meaning → List ℕ → List ℕ → List ℕ → List ℕ → Type 0
-Marked P s t r0 w0 read written =
-    (marks : List Mark) × Grew s.marks t.marks marks × AllByRecursion (λ m. P (drop (length r0) (take m.read read)) (drop (length w0) (take m.written written))) marks
+-- what they sent
+pub sent : (s t : Wire) (ws : List WireEvent) → WireTrace s ws t → Grew s.sent t.sent (parcels ws)
+sent s t [] k = grew_same s.sent t.sent k.sent
+sent s t (w ∷ ws) (m, step, rest) = grew_join s.sent m.sent t.sent (parcels_by w) (parcels ws) (one_sent w s.sent m.sent step.sent) (sent m t ws rest)
 
--- a call that asks for input, where this held before it
-asked : (P : List ℕ → List ℕ → Type 0) (b : Bool) (s m t : Meaning) (r0 R w0 W read written more_read more_written : List ℕ)
-    → s.read ≡ Some (r0 ++ R) → s.written ≡ Some (w0 ++ W) → read ≡ (r0 ++ R) ++ more_read → written ≡ (w0 ++ W) ++ more_written
-    → (new : Option (List Mark)) → m.marks ≡ new → Marks b s new → MatchBool b (P R W) (Unit {0}) → Marked P m t r0 w0 read written → Marked P s t r0 w0 read written
-asked P false s m t r0 R w0 W read written more_read more_written sr sw rs ws new me stays p later = (later.0, rw (sym (me ∙ stays)) later.1, later.2)
-asked P true s m t r0 R w0 W read written more_read more_written sr sw rs ws None me added p (marks, grew, all) = (marks, silent t.marks (rw me at grew), all) where
-  silent : (o : Option (List Mark)) → Grew None o marks → Grew s.marks o marks
-  silent None g = tt
-  silent (Some now) g = absurd g
-asked P true s m t r0 R w0 W read written more_read more_written sr sw rs ws (Some now) me (mark, is, grew) p later = (
+-- what was added by a place of a list, whatever came after it
+part_by : {A : Type 0} (was mid now : Option (List A)) (xs ys : List A) (n : ℕ) → Grew was mid xs → Grew mid now ys → IfSome mid (λ l. n ≡ length l) → IsPart was now n xs
+part_by None mid now xs ys n p q k = tt
+part_by (Some w) mid None xs ys n p q k = tt
+part_by (Some w) None (Some z) xs ys n p q k = absurd q
+part_by (Some w) (Some m) (Some z) xs ys n p q k = rw (q, take_at m ys n (sym k), p, drop_at w xs (length w) refl) refl
+
+-- what was done by a mark
+done_by : (s m t : Meaning) (f g : Effects) (mark : Mark) → Affects s f m → Affects m g t → IsMarkOf m mark → IsDoneBy s t mark f
+done_by s m t f g mark a b is = record {
+  read = part_by s.read m.read t.read f.read g.read mark.read a.read b.read is.read;
+  arrived = part_by (datagrams_of s.wire.received) (datagrams_of m.wire.received) (datagrams_of t.wire.received) (arrivals f.wire) (arrivals g.wire) mark.received (arrived s.wire m.wire f.wire a.wire) (arrived m.wire t.wire g.wire b.wire) is.received;
+  written = part_by s.written m.written t.written f.written g.written mark.written a.written b.written is.written;
+  sent = part_by s.wire.sent m.wire.sent t.wire.sent (parcels f.wire) (parcels g.wire) mark.sent (sent s.wire m.wire f.wire a.wire) (sent m.wire t.wire g.wire b.wire) is.sent;
+}
+
+-- the marks of calls from some moment on
+abbrev pub Marked : (Effects → Type 0) → Meaning → Meaning → Meaning → Type 0
+Marked P s m t = (marks : List Mark) × Grew m.marks t.marks marks × AllByRecursion (λ mark. (f : Effects) × IsDoneBy s t mark f × P f) marks
+
+-- one more call before those
+asked : (P : Effects → Type 0) (b : Bool) (s m n t : Meaning) (done more : Effects) → Affects s done m → Affects m more t
+    → (new : Option (List Mark)) → n.marks ≡ new → Marks b m new → MatchBool b (P done) (Unit {0}) → Marked P s n t → Marked P s m t
+asked P false s m n t done more a b new e stays p later = (later.0, rw (sym (e ∙ stays)) later.1, later.2)
+asked P true s m n t done more a b None e added p (marks, grew, all) = (marks, untold t.marks (rw e at grew), all) where
+  untold : (o : Option (List Mark)) → Grew None o marks → Grew m.marks o marks
+  untold None g = tt
+  untold (Some now) g = absurd g
+asked P true s m n t done more a b (Some now) e (mark, is, grew) p later = (
   mark ∷ later.0,
-  grew_join s.marks m.marks t.marks (mark ∷ []) later.0 (rw me grew) later.1,
-  (rw (part r0 R more_read read mark.read rs (at_end s.read mark.read (r0 ++ R) is.read sr), part w0 W more_written written mark.written ws (at_end s.written mark.written (w0 ++ W) is.written sw)) p, later.2),
+  grew_join m.marks n.marks t.marks (mark ∷ []) later.0 (rw e grew) later.1,
+  ((done, done_by s m t done more mark a b is, p), later.2),
 )
 
--- the rest of a list of calls, from the place where it has read and written what `done` says
-trace_marks : (P : List ℕ → List ℕ → Type 0) (s t : Meaning) (es : List Event) (done : Effects) (r0 w0 read written : List ℕ)
-    → s.read ≡ Some (r0 ++ done.read) → s.written ≡ Some (w0 ++ done.written) → t.read ≡ Some read → t.written ≡ Some written
-    → Trace s es t → AtReads (λ f. P f.read f.written) done es
-    → Marked P s t r0 w0 read written
-trace_marks P s t [] done r0 w0 read written sr sw tr tw e p = ([], grew_same s.marks t.marks (ap (λ (x : Meaning). x.marks) e), tt)
-trace_marks P s t (e ∷ es) done r0 w0 read written sr sw tr tw (m, step, rest) p =
-    let here = step_affects s e m step in
-    let there = trace_affects m t es rest in
-    let rs = between s.read m.read t.read (effect_of e).read (effects es).read (r0 ++ done.read) read sr here.read there.read tr in
-    let ws = between s.written m.written t.written (effect_of e).written (effects es).written (w0 ++ done.written) written sw here.written there.written tw in
-    let later = trace_marks P m t es (and_then done (effect_of e)) r0 w0 read written
-    (rs.0 ∙ ap (λ (l : List ℕ). Some l) (append_assoc r0 done.read (effect_of e).read)) (ws.0 ∙ ap (λ (l : List ℕ). Some l) (append_assoc w0 done.written (effect_of e).written)) tr tw rest p.1 in
-    asked P (asks e) s m t r0 done.read w0 done.written read written _ _ sr sw rs.1 ws.1 m.marks refl step.marks p.0 later
-
--- the marks of calls over an object that doesn't tell what they are about
-marks_grow : (s t : Meaning) (es : List Event) → Trace s es t → (marks : List Mark) × Grew s.marks t.marks marks
-marks_grow s t [] e = ([], grew_same s.marks t.marks (ap (λ (x : Meaning). x.marks) e))
-marks_grow s t (e ∷ es) (m, step, rest) = let later = marks_grow m t es rest in one (asks e) m.marks refl step.marks later.0 later.1 where
-  one : (b : Bool) (new : Option (List Mark)) → m.marks ≡ new → Marks b s new → (marks : List Mark) → Grew m.marks t.marks marks → (marks : List Mark) × Grew s.marks t.marks marks
-  one false new me stays marks grew = (marks, rw (sym (me ∙ stays)) grew)
-  one true None me added marks grew = (marks, silent t.marks (rw me at grew)) where
-    silent : (o : Option (List Mark)) → Grew None o marks → Grew s.marks o marks
-    silent None g = tt
-    silent (Some now) g = absurd g
-  one true (Some now) me (mark, is, g) marks grew = (mark ∷ marks, grew_join s.marks m.marks t.marks (mark ∷ []) marks (rw me g) grew)
-
-by_told : (P : List ℕ → List ℕ → Type 0) (s t : Meaning) (es : List Event) → Trace s es t → AtReads (λ f. P f.read f.written) nothing es
-    → (r read w written : Option (List ℕ)) → s.read ≡ r → t.read ≡ read → s.written ≡ w → t.written ≡ written
-    → (marks : List Mark) × Grew s.marks t.marks marks × AtMarks P r read w written marks
-by_told P s t es trace p (Some r) (Some read) (Some w) (Some written) sr tr sw tw =
-    trace_marks P s t es nothing r w read written (sr ∙ ap (λ (l : List ℕ). Some l) (sym (append-nil r))) (sw ∙ ap (λ (l : List ℕ). Some l) (sym (append-nil w))) tr tw trace p
-by_told P s t es trace p r read w written sr tr sw tw = let m = marks_grow s t es trace in (m.0, m.1, tt)
+-- the rest of a list of calls, from the place where this was done
+trace_marks : (P : Effects → Type 0) (s m t : Meaning) (es : List Event) (done : Effects) → Affects s done m → Trace m es t → AtReads P done es → Marked P s m t
+trace_marks P s m t [] done a e p = ([], grew_same m.marks t.marks (ap (λ (x : Meaning). x.marks) e), tt)
+trace_marks P s m t (e ∷ es) done a (n, step, rest) p =
+    let here = step_affects m e n step in
+    let later = trace_marks P s n t es (and_then done (effect_of e)) (affects_join s m n done (effect_of e) a here) rest p.2 in
+    asked P (asks e) s m n t done (effects (e ∷ es)) a (trace_affects m t (e ∷ es) (n, step, rest)) n.marks refl step.marks p.0 later
 
 -- what held before each read of a list of calls is what its marks say
-pub prompt : (P : List ℕ → List ℕ → Type 0) (s t : Meaning) (es : List Event) → Trace s es t → AtReads (λ f. P f.read f.written) nothing es → Prompt P s t
-prompt P s t es trace p = by_told P s t es trace p s.read t.read s.written t.written refl refl refl refl
+pub prompt : (P : Effects → Type 0) (s t : Meaning) (es : List Event) → Trace s es t → AtReads P nothing es → Prompt P s t
+prompt P s t es trace p = trace_marks P s s t es nothing (affects_none s) trace p

@@ -5,8 +5,8 @@ ghost use Rattle.scl_outside.specs.Events.{Noted};
 ghost use Rattle.scl_outside.specs.Steps.{Step};
 ghost use Rattle.scl_outside.specs.Answers.{FitsBuffer, Writes, read_event};
 
-/// How far an object was before a call that asks for input: the numbers of bytes read, datagrams received, bytes
-/// written and datagrams sent by then.
+/// How far an object was before a call that asks for input: the numbers of bytes read, datagrams received,
+/// bytes written and datagrams sent by then.
 #[derive(Clone, Copy, Debug, PartialEq, Eq)]
 pub struct Mark {
     pub read: u64,
@@ -18,7 +18,7 @@ pub struct Mark {
 /// The answer of a read.
 #[derive(Clone, Copy, Debug, PartialEq, Eq)]
 pub enum ReadOut {
-    /// So many bytes, at least one, stand at the front of the buffer: the next of the input.
+    /// This number of bytes, at least one, are at the front of the buffer: the next of the input.
     Got(usize),
     /// The input is over.
     End,
@@ -31,7 +31,7 @@ pub enum ReadOut {
 pub enum WriteOut {
     /// All bytes went out, in order.
     Done,
-    /// The write failed, after some front of the bytes went out.
+    /// The write failed, after some prefix of the bytes went out.
     Failed,
 }
 
@@ -49,13 +49,14 @@ pub trait Duct {
     /// What the object tells of itself.
     ghost meaning: { Self → Meaning };
 
-    /// Takes the next bytes of the input into the front of `buf`, which isn't empty, at most as many as it holds.
+    /// Takes the next bytes of the input into the front of `buf`, which isn't empty, at most as many as it
+    /// holds. `End` where none is left, `Failed` where the read failed, which takes nothing.
     fn read(&mut self, buf: &mut [u8]) -> ReadOut
         requires { 0 < length buf.old }
         ensures fits { FitsBuffer result (length buf.old) }
         ensures step { Step (meaning self.old) (read_event result buf.new) (meaning self.new) };
 
-    /// Writes all the bytes.
+    /// Writes all the bytes. `Failed` where a prefix of them went out and then the write failed.
     fn write(&mut self, bytes: &[u8]) -> WriteOut
         ensures step { Writes (meaning self.old) result bytes.now (meaning self.new) };
 

@@ -2,7 +2,7 @@
 use super::*;
 
 /// The main header of a picture of one pixel: COD stands at 55, QCD at 69 and SOT at 75.
-const HEADER: &[u8] = &[
+pub const HEADER: &[u8] = &[
     0xFF, 0x4F, 0xFF, 0x51, 0x00, 0x29, 0x40, 0x00, 0x00, 0x00, 0x00, 0x01, 0x00, 0x00, 0x00, 0x01,
     0x00, 0x00, 0x00, 0x00, 0x00, 0x00, 0x00, 0x00, 0x00, 0x00, 0x00, 0x01, 0x00, 0x00, 0x00, 0x01,
     0x00, 0x00, 0x00, 0x00, 0x00, 0x00, 0x00, 0x00, 0x00, 0x01, 0x07, 0x01, 0x01, 0xFF, 0x50, 0x00,
@@ -11,7 +11,7 @@ const HEADER: &[u8] = &[
     0x00, 0x00, 0x00, 0x00, 0x00, 0x00, 0x01, 0xFF, 0x93,
 ];
 
-/// The header with the bytes from one place up to another replaced, and so many bytes 0 behind it.
+/// The header with the bytes from one place up to another replaced, and `behind` bytes 0 after it.
 fn changed(
     alloc: Global,
     from: usize,
@@ -149,5 +149,38 @@ fn a_header_meets_faults(rt: HostRuntime) -> Result<(), Fail> {
         assert_eq!(rt; duct.noted(), line.as_bytes());
         assert!(rt; duct.told());
     }
+    Ok(())
+}
+
+#[test]
+fn nothing_is_read_once_the_verdict_is_fixed(rt: HostRuntime) -> Result<(), Fail> {
+    // Reads give one byte each; the read after the one that fixes the verdict would fail.
+    let refused = changed(rt.alloc(), 1, 2, &[0x50], 0)?;
+    for command in ["head", "order"] {
+        let words = words_of(rt.alloc(), &[command])?;
+        let mut out = outside_over(rt.alloc(), &refused, &[1, 1, 1, 1], &[2], &[])?;
+        assert_eq!(rt; run(rt.alloc(), &words, &mut out), 6, "of {command}");
+        assert_eq!(rt; out.noted(), b"scl: refused at 0: no soc\n".as_slice());
+        assert!(rt; out.told());
+        let (status, out) = run_over(rt.alloc(), &[command], HEADER, &[1], &[])?;
+        assert_eq!(rt; status, 0, "of {command}");
+        assert!(rt; out.told());
+    }
+    Ok(())
+}
+
+#[test]
+fn a_failed_read_is_not_tried_again(rt: HostRuntime) -> Result<(), Fail> {
+    for (command, input) in [("head", HEADER), ("order", HEADER)] {
+        let (status, out) = run_over(rt.alloc(), &[command], input, &[0], &[])?;
+        assert_eq!(rt; status, 3, "of {command}");
+        assert_eq!(rt; out.written(), [].as_slice());
+        assert_eq!(rt; out.noted(), b"scl: read fault\n".as_slice());
+        assert!(rt; out.told());
+    }
+    let (status, out) = run_over(rt.alloc(), &["thin", "7"], &CAPTURE_A, &[0], &[])?;
+    assert_eq!(rt; status, 3);
+    assert_eq!(rt; out.written(), [].as_slice());
+    assert!(rt; out.told());
     Ok(())
 }

@@ -1,5 +1,6 @@
 //! The machine over readers and writers in memory: what waits, what is sent when, and what a broken output ends with.
 use super::*;
+use scl_outside::{BindOut, Outside, RecvOut, SendOut};
 use std::cell::Cell;
 use std::io::{self, ErrorKind, Read, Write};
 
@@ -66,7 +67,7 @@ fn what_was_written_is_sent_before_the_input_is_waited_for(rt: HostRuntime) -> R
             sent: &sent,
             limit: 1_000,
         };
-        let mut machine = Machine::new(rt.alloc(), input, output, Vec::new(rt.alloc()))?;
+        let mut machine = Machine::new(rt.alloc(), input, output, Vec::new(rt.alloc()), rt)?;
         let words = words_of(rt.alloc(), &["thin", "7"])?;
         let _ = run(rt.alloc(), &words, &mut machine);
         assert_eq!(rt; seen.get(), wanted, "after {count} parts");
@@ -84,10 +85,36 @@ fn a_broken_output_ends_with_status_4(rt: HostRuntime) -> Result<(), Fail> {
     ] {
         let sent = Cell::new(0);
         let output = Counter { sent: &sent, limit };
-        let mut machine = Machine::new(rt.alloc(), input, output, Vec::new(rt.alloc()))?;
+        let mut machine = Machine::new(rt.alloc(), input, output, Vec::new(rt.alloc()), rt)?;
         let words = words_of(rt.alloc(), &["thin", "7"])?;
         let status = run(rt.alloc(), &words, &mut machine);
         assert_eq!(rt; machine.finish(status), wanted, "at limit {limit}");
     }
+    Ok(())
+}
+
+#[test]
+fn a_socket_sends_and_receives_and_never_blocks(rt: HostRuntime) -> Result<(), Fail> {
+    let input: &[u8] = &[];
+    let alloc = rt.alloc();
+    let mut machine = Machine::new(alloc, input, Vec::new(alloc), Vec::new(alloc), rt)?;
+    assert_eq!(rt; machine.bind("no address"), BindOut::Failed);
+    assert_eq!(rt; machine.bind("127.0.0.1:40917"), BindOut::Bound);
+    assert!(rt; machine.peers() < 64);
+    assert_eq!(rt; machine.join("no address"), BindOut::Failed);
+    assert!(rt; machine.peers() < 64);
+    assert_eq!(rt; machine.join("127.0.0.1:40917"), BindOut::Bound);
+    assert_eq!(rt; machine.peers(), 1);
+    let mut buf = [0u8; 4];
+    assert_eq!(rt; machine.recv(&mut buf), RecvOut::NotReady);
+    for (bytes, len) in [(&b"abc"[..], 3), (&b"defghi"[..], 4), (&b""[..], 0)] {
+        assert!(rt; machine.peers() > 0);
+        assert_eq!(rt; machine.send(0, bytes), SendOut::Sent);
+        assert_eq!(rt; machine.recv(&mut buf), RecvOut::Got(len));
+        assert!(rt; buf[..len] == bytes[..len]);
+    }
+    assert_eq!(rt; machine.recv(&mut buf), RecvOut::NotReady);
+    let mut second = Machine::new(alloc, input, Vec::new(alloc), Vec::new(alloc), rt)?;
+    assert_eq!(rt; second.bind("127.0.0.1:40917"), BindOut::Failed);
     Ok(())
 }

@@ -118,7 +118,7 @@ fn a_fault_leaves_the_lines_before_it(rt: HostRuntime) -> Result<(), Fail> {
         assert!(rt; duct.told());
     }
     let words = words_of(rt.alloc(), &["order"])?;
-    let mut duct = DuctMem::new(rt.alloc(), &TWO_COMPONENTS, &[50], &[1], &[], ROOM)?;
+    let mut duct = outside_over(rt.alloc(), &TWO_COMPONENTS, &[50], &[1], &[])?;
     assert_eq!(rt; run(rt.alloc(), &words, &mut duct), 3);
     assert_eq!(rt; duct.written(), [].as_slice());
     assert_eq!(rt; duct.noted(), b"scl: read fault\n".as_slice());

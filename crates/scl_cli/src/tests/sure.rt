@@ -2,18 +2,20 @@
 ghost use Rattle.std.specs.Prelude.{◌≡◌, ◌⊎◌, List, ℕ, Some};
 ghost use Rattle.scl_outside.specs.Memory.{sure_meaning};
 ghost use Rattle.scl_cli.specs.declared.command.Command.{Command};
-ghost use Rattle.scl_cli.specs.declared.ending.Refusal.{Refusal};
+ghost use Rattle.scl_run.specs.declared.ending.Refusal.{Refusal};
 ghost use Rattle.scl_cli.specs.Commands.{Spells};
-ghost use Rattle.scl_cli.specs.Made.{Accepts, Refuses};
-ghost use Rattle.scl_cli.specs.Runs.{IsDone};
+ghost use Rattle.scl_run.specs.Runs.{IsDone, EndsRefused};
+ghost use Rattle.scl_cli.specs.Jobs.{job};
 
 use super::*;
 
-/// No fault is answered; an accepted input gives 0, or want of memory for the packet order, and a refused one 6.
+/// No fault is answered; an accepted input gives 0 and a refused one 6, or 7 where the job may be out of memory.
 fn run_surely(alloc: Global, words: &Words, duct: &mut NeverFails) -> u8
+    requires { (sure_meaning duct.old).wire.peers ≡ 0 }
     ensures no_fault { (result ≡ 0) ⊎ ((result ≡ 2) ⊎ ((result ≡ 6) ⊎ (result ≡ 7))) }
     ensures decided { (command : Command) (input : List ℕ) → Spells command words.now → (sure_meaning duct.old).left ≡ Some input
-        → (Accepts command input → IsDone command result) × ((refusal : Refusal) → Refuses command input refusal → result ≡ 6) }
+        → ((job command).inputs.Accepts input → IsDone (job command).memory result)
+        × ((r : Refusal) → (job command).inputs.Refuses input r → EndsRefused (job command).memory r (sure_meaning duct.old) (sure_meaning duct.new) result) }
 {
     run(alloc, words, duct)
 }

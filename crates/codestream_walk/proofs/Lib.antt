@@ -1,0 +1,13 @@
+pub mod Bytes
+pub mod Windows
+pub mod Sizes
+pub mod Packets
+pub mod Stages
+pub mod Stepping
+pub mod Inputs
+pub mod Refusals
+pub mod Verdicts
+pub mod Ranks
+pub mod Inside
+pub mod Exits
+pub mod Stops

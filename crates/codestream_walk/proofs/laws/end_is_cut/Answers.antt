@@ -1,0 +1,5 @@
+use Rattle.codestream_walk.proofs.Refusals.{end_is_cut}
+use Rattle.codestream_walk.proofs.laws.end_is_cut.Goals as goal
+
+pub returns : goal.returns
+returns c = end_is_cut

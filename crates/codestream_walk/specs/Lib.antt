@@ -1,0 +1,11 @@
+pub mod Items
+pub mod InHand
+pub mod Progressions
+pub mod Walking
+pub mod Faults
+pub mod Judging
+pub mod Reading
+pub mod Staging
+pub mod Inputs
+pub mod Walks
+pub mod WalkSteps

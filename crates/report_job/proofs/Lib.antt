@@ -1,0 +1,5 @@
+pub mod Gives
+pub mod Takes
+pub mod TurnsTaken
+pub mod SoFar
+pub mod Promised

@@ -1,0 +1,4 @@
+pub mod Job
+pub mod Giving
+pub mod Turns
+pub mod Headlines

@@ -1,0 +1,27 @@
+//! The headline, as laws on functions that do nothing.
+ghost use Rattle.report_job.specs.Headlines.{HeadlineFollows, HeadlineSoFar, HeadlineAtFault};
+ghost use Rattle.report_job.specs.Headlines.{WholeStreamIsReported};
+
+/// What a finished report has written of a stream's capture are the lines of what is due at its
+/// end, and the END line.
+pub fn headline_follows()
+    ensures { HeadlineFollows }
+{}
+
+/// What a report has written before each call that asks for input, of a stream's capture, are the
+/// lines of what is due by then.
+pub fn headline_so_far()
+    ensures { HeadlineSoFar }
+{}
+
+/// What a report has written where a read failed or the input was refused are the lines of what was
+/// due by then.
+pub fn headline_at_fault()
+    ensures { HeadlineAtFault }
+{}
+
+/// What a finished report has written of the capture of a whole stream in order are the lines of
+/// all its precincts, and the END line.
+pub fn whole_stream_is_reported()
+    ensures { WholeStreamIsReported }
+{}

@@ -1,0 +1,13 @@
+//! The job of `report`: a capture goes through a receiver, and the lines of each precinct are
+//! written as soon as it is due.
+#![tactic(auto)]
+
+mod capture;
+mod giving;
+mod laws;
+
+pub use capture::report;
+pub use laws::{headline_at_fault, headline_follows, headline_so_far, whole_stream_is_reported};
+
+#[cfg(test)]
+mod tests;

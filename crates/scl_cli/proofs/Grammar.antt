@@ -1,0 +1,59 @@
+-- The words of a command, one by one.
+use Rattle.std.proofs.Common.{suc, zero, ◌≡◌, ℕ, List, [], ◌∷◌, Some, length, refl, sym, ap, ◌∙◌, arith}
+use Rattle.std.specs.Prelude.{slice_get}
+use Rattle.scl_cli.specs.declared.command.Command.{Command}
+use Rattle.scl_cli.specs.declared.command.Verb.{Verb}
+use Rattle.scl_cli.specs.Commands.{Spells, Begins, verb_word, verb_of, form}
+
+-- a first word
+pub begins : (words : List (List ℕ)) (word : List ℕ) (v : Verb) → slice_get words 0 ≡ Some word → word ≡ verb_word v → Begins v words
+begins [] word v at is = absurd (cc)
+begins (w ∷ more) word v at is = let e : w ≡ word = cc in (more, ap (λ (x : List ℕ). x ∷ more) (e ∙ is))
+
+-- that of a command's words
+pub first_word : (words : List (List ℕ)) (word : List ℕ) (command : Command) → slice_get words 0 ≡ Some word → Spells command words → word ≡ verb_word (verb_of command)
+first_word words word command at (range, is) = let e : slice_get (verb_word (verb_of command) ∷ (form command).values) 0 ≡ Some word = rw is at at in cc
+
+-- a command whose words begin so
+pub same_verb : (words : List (List ℕ)) (word : List ℕ) (command : Command) (v : Verb) → slice_get words 0 ≡ Some word → ((w : Verb) → word ≡ verb_word w → Some v ≡ Some w) → Spells command words → verb_of command ≡ v
+same_verb words word command v at all spells = let e : Some v ≡ Some (verb_of command) = all (verb_of command) (first_word words word command at spells) in cc
+
+-- words that begin so, by how many they are
+pub alone : (words : List (List ℕ)) (v : Verb) → Begins v words → length words ≡ 1 → words ≡ verb_word v ∷ []
+alone words v ([], is) n = is
+alone words v (w ∷ more, is) n = absurd (let e : suc (suc (length more)) ≡ 1 = sym (ap length is) ∙ n in omega arith)
+
+pub with_one : (words : List (List ℕ)) (v : Verb) (word : List ℕ) → Begins v words → length words ≡ 2 → slice_get words 1 ≡ Some word → words ≡ verb_word v ∷ word ∷ []
+with_one words v word ([], is) n at = absurd (let e : suc zero ≡ 2 = sym (ap length is) ∙ n in omega arith)
+with_one words v word (w ∷ [], is) n at =
+    let e : slice_get (verb_word v ∷ w ∷ []) 1 ≡ Some word = rw is at at in
+    let f : w ≡ word = cc in
+    is ∙ ap (λ (x : List ℕ). verb_word v ∷ x ∷ []) f
+with_one words v word (w ∷ x ∷ more, is) n at = absurd (let e : suc (suc (suc (length more))) ≡ 2 = sym (ap length is) ∙ n in omega arith)
+
+pub with_two : (words : List (List ℕ)) (v : Verb) (first second : List ℕ) → Begins v words → length words ≡ 3 → slice_get words 1 ≡ Some first → slice_get words 2 ≡ Some second
+    → words ≡ verb_word v ∷ first ∷ second ∷ []
+with_two words v first second ([], is) n a b = absurd (let e : suc zero ≡ 3 = sym (ap length is) ∙ n in omega arith)
+with_two words v first second (w ∷ [], is) n a b = absurd (let e : suc (suc zero) ≡ 3 = sym (ap length is) ∙ n in omega arith)
+with_two words v first second (w ∷ x ∷ [], is) n a b =
+    let e : slice_get (verb_word v ∷ w ∷ x ∷ []) 1 ≡ Some first = rw is at a in
+    let f : slice_get (verb_word v ∷ w ∷ x ∷ []) 2 ≡ Some second = rw is at b in
+    let ew : w ≡ first = cc in
+    let ex : x ≡ second = cc in
+    is ∙ rw (ew, ex) refl
+with_two words v first second (w ∷ x ∷ y ∷ more, is) n a b = absurd (let e : suc (suc (suc (suc (length more)))) ≡ 3 = sym (ap length is) ∙ n in omega arith)
+
+pub with_three : (words : List (List ℕ)) (v : Verb) (first second third : List ℕ) → Begins v words → length words ≡ 4 → slice_get words 1 ≡ Some first → slice_get words 2 ≡ Some second → slice_get words 3 ≡ Some third
+    → words ≡ verb_word v ∷ first ∷ second ∷ third ∷ []
+with_three words v first second third ([], is) n a b c = absurd (let e : suc zero ≡ 4 = sym (ap length is) ∙ n in omega arith)
+with_three words v first second third (w ∷ [], is) n a b c = absurd (let e : suc (suc zero) ≡ 4 = sym (ap length is) ∙ n in omega arith)
+with_three words v first second third (w ∷ x ∷ [], is) n a b c = absurd (let e : suc (suc (suc zero)) ≡ 4 = sym (ap length is) ∙ n in omega arith)
+with_three words v first second third (w ∷ x ∷ y ∷ [], is) n a b c =
+    let e : slice_get (verb_word v ∷ w ∷ x ∷ y ∷ []) 1 ≡ Some first = rw is at a in
+    let f : slice_get (verb_word v ∷ w ∷ x ∷ y ∷ []) 2 ≡ Some second = rw is at b in
+    let g : slice_get (verb_word v ∷ w ∷ x ∷ y ∷ []) 3 ≡ Some third = rw is at c in
+    let ew : w ≡ first = cc in
+    let ex : x ≡ second = cc in
+    let ey : y ≡ third = cc in
+    is ∙ rw (ew, ex, ey) refl
+with_three words v first second third (w ∷ x ∷ y ∷ z ∷ more, is) n a b c = absurd (let e : suc (suc (suc (suc (suc (length more))))) ≡ 4 = sym (ap length is) ∙ n in omega arith)

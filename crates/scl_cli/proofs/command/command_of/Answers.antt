@@ -1,0 +1,17 @@
+use Rattle.scl_cli.proofs.Grammar.{begins}
+use Rattle.scl_cli.proofs.command.command_of.Goals as goal
+
+pub thin_of-requires : goal.thin_of-requires
+thin_of-requires c = rw c.in-Thin.is at (begins _ _ _ c.get.ensures c.in_ok-verb_in.ensures.named)
+
+pub head_of-requires : goal.head_of-requires
+head_of-requires c = rw c.in-Head.is at (begins _ _ _ c.get.ensures c.in_ok-verb_in.ensures.named)
+
+pub order_of-requires : goal.order_of-requires
+order_of-requires c = rw c.in-Order.is at (begins _ _ _ c.get.ensures c.in_ok-verb_in.ensures.named)
+
+pub report_of-requires : goal.report_of-requires
+report_of-requires c = rw c.in-Report.is at (begins _ _ _ c.get.ensures c.in_ok-verb_in.ensures.named)
+
+pub parse_of-requires : goal.parse_of-requires
+parse_of-requires c = rw c.in-Parse.is at (begins _ _ _ c.get.ensures c.in_ok-verb_in.ensures.named)

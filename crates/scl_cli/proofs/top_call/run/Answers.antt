@@ -1,0 +1,18 @@
+use Rattle.scl_cli.proofs.Runs.{spells_nothing, ran, decided, wanted}
+use Rattle.scl_cli.proofs.Reported.{reported}
+use Rattle.scl_cli.proofs.top_call.run.Goals as goal
+
+pub returns-clause-ran : goal.returns-clause-ran
+returns-clause-ran g c = ran _ _ _ _ _ _ _ _ c.in-Some.ensures.spelt c.finish.ensures.status c.perform-ending.ensures.1 c.finish.ensures.note
+
+pub returns-clause-decided : goal.returns-clause-decided
+returns-clause-decided g c = λ command spells. decided _ command _ _ _ _ _ _ (c.in-Some.ensures.all command spells) c.finish.ensures.status c.perform-ending.ensures.1 c.finish.ensures.note
+
+pub returns-clause-memory : goal.returns-clause-memory
+returns-clause-memory g c = λ seven. wanted _ _ _ _ _ _ _ _ c.in-Some.ensures.spelt c.finish.ensures.status c.perform-ending.ensures.1 c.finish.ensures.note seven
+
+pub returns-in_default-clause-ran : goal.returns-in_default-clause-ran
+returns-in_default-clause-ran g c = spells_nothing _ _ _ c.in_default.ensures.all c.note.ensures.step
+
+pub returns-clause-report : goal.returns-clause-report
+returns-clause-report g c = λ pick spells. reported _ pick _ _ _ _ _ _ (c.in-Some.ensures.all _ spells) spells.0 c.finish.ensures.status c.perform-ending.ensures.1 c.finish.ensures.note

@@ -1,0 +1,26 @@
+//! The words of `parse`.
+ghost use Rattle.std.specs.Prelude.{◌≡◌, IfSome, Some};
+ghost use Rattle.scl_cli.specs.declared.command.Command.{Command};
+ghost use Rattle.scl_cli.specs.declared.command.Verb.TheVariants as verbs;
+ghost use Rattle.scl_cli.specs.Commands.{Spells, Begins, verb_of};
+
+use crate::command::Stamps;
+use crate::numbers::number_within;
+use crate::{Command, Words};
+
+/// The command that these words spell, which begin with `parse`; none where they spell no command.
+pub fn parse_of(words: &Words) -> Option<Command>
+    requires { Begins verbs.Parse words.now }
+    ensures spelt { IfSome result (λ command. Spells command words.now) }
+    ensures all { (command : Command) → verb_of command ≡ verbs.Parse → Spells command words.now → result ≡ Some command }
+{
+    if words.len() != 3 {
+        return None;
+    }
+    let first = number_within(words.get(1), 0, 4_294_967_295)?;
+    let step = number_within(words.get(2), 1, 65_535)?;
+    Some(Command::Parse(Stamps {
+        first: first as u32,
+        step: step as u16,
+    }))
+}

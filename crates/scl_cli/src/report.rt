@@ -1,0 +1,40 @@
+//! The words of `report`.
+ghost use Rattle.std.specs.Prelude.{◌≡◌, ◌≤◌, ◌<◌, ◌^◌, ℕ, Option, IfSome, Some};
+ghost use Rattle.scl_cli.specs.declared.command.Command.{Command};
+ghost use Rattle.scl_cli.specs.declared.command.Verb.TheVariants as verbs;
+ghost use Rattle.scl_cli.specs.Commands.{Spells, Begins, verb_of, source_word, IsSource};
+
+use crate::numbers::number_within;
+use crate::{Command, Words};
+use stream_receiver::Pick;
+
+/// The source that a word picks: an SSRC, or `any`; none where it is neither.
+fn source_in(word: &str) -> Option<Option<u32>>
+    ensures spelt { IfSome result (λ source. IsSource source × (word.now ≡ source_word source)) }
+    ensures all { (source : Option ℕ) → IsSource source → word.now ≡ source_word source → result ≡ Some source }
+{
+    if word == "any" {
+        return Some(None);
+    }
+    let source = number_within(word, 0, 4_294_967_295)?;
+    Some(Some(source as u32))
+}
+
+/// The command that these words spell, which begin with `report`; none where they spell no command.
+pub fn report_of(words: &Words) -> Option<Command>
+    requires { Begins verbs.Report words.now }
+    ensures spelt { IfSome result (λ command. Spells command words.now) }
+    ensures all { (command : Command) → verb_of command ≡ verbs.Report → Spells command words.now → result ≡ Some command }
+{
+    if words.len() != 4 {
+        return None;
+    }
+    let kind = number_within(words.get(1), 0, 127)?;
+    let source = source_in(words.get(2))?;
+    let window = number_within(words.get(3), 1, 16_384)?;
+    Some(Command::Report(Pick {
+        kind: kind as u8,
+        source,
+        window: window as u16,
+    }))
+}

@@ -1,0 +1,5 @@
+pub mod InputClassLaws
+pub mod CaptureInputLaws
+pub mod HeaderInputLaws
+pub mod Performed
+pub mod Decided
