@@ -21,7 +21,7 @@ pub struct Flushed {
 /// A queue of datagrams to one peer.
 #[derive(Drop)]
 pub struct SendFuture {
-    peer: usize,
+    pub(crate) peer: usize,
     queue: HeapCircularBuffer<RcSlice<u8>>,
     ghost within: { length queue.items ≤ queue.capacity },
     ghost depth: { queue.capacity ≤ 4096 },

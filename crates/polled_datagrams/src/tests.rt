@@ -16,6 +16,28 @@ fn outside_of(alloc: Global, inbound: Vec<Inbound>, first: &[SendOut]) -> Result
     Ok(OutsideMem::new(alloc, duct, inbound, links, &[], 20_000)?)
 }
 
+/// Adds the first peer.
+fn join(out: &mut OutsideMem) -> bool {
+    out.peers() < 64 && out.join("a") == BindOut::Bound
+}
+
+/// Polls a queue to the first peer, where there is one.
+fn poll(queue: &mut SendFuture, out: &mut OutsideMem) -> Flushed {
+    if queue.peer < out.peers() {
+        return queue.poll(out);
+    }
+    Flushed {
+        pending: false,
+        sent: 0,
+        failed: 0,
+    }
+}
+
+/// Whether this was the datagram sent at this index.
+fn has_sent(out: &OutsideMem, i: usize, peer: usize, bytes: &[u8]) -> bool {
+    i < out.sent_count() && out.sent(i) == (peer, bytes)
+}
+
 #[test]
 fn a_poll_answers_as_the_wire_does(rt: HostRuntime) -> Result<(), Fail> {
     let alloc = rt.alloc();
@@ -59,7 +81,7 @@ fn a_queue_is_sent_in_order_as_its_link_is_ready(rt: HostRuntime) -> Result<(), 
         SendOut::NotReady,
     ];
     let mut out = outside_of(alloc, Vec::new(alloc), &answers)?;
-    assert_eq!(rt; out.join("a"), BindOut::Bound);
+    assert!(rt; join(&mut out));
     let mut queue = SendFuture::new(alloc, 0, 3)?;
     for byte in 1..4 {
         assert!(rt; queue.try_put(RcSlice::from_slice(alloc, &[byte])?).is_ok());
@@ -80,12 +102,12 @@ fn a_queue_is_sent_in_order_as_its_link_is_ready(rt: HostRuntime) -> Result<(), 
             sent,
             failed,
         };
-        assert_eq!(rt; queue.poll(&mut out), flushed);
+        assert_eq!(rt; poll(&mut queue, &mut out), flushed);
         assert_eq!(rt; queue.queued(), left);
     }
     assert_eq!(rt; out.sent_count(), 2);
-    assert_eq!(rt; out.sent(0), (0, [1].as_slice()));
-    assert_eq!(rt; out.sent(1), (0, [3].as_slice()));
+    assert!(rt; has_sent(&out, 0, 0, &[1]));
+    assert!(rt; has_sent(&out, 1, 0, &[3]));
     assert!(rt; out.told());
     Ok(())
 }
@@ -94,15 +116,15 @@ fn a_queue_is_sent_in_order_as_its_link_is_ready(rt: HostRuntime) -> Result<(), 
 fn the_front_is_skipped_unsent(rt: HostRuntime) -> Result<(), Fail> {
     let alloc = rt.alloc();
     let mut out = outside_of(alloc, Vec::new(alloc), &[])?;
-    assert_eq!(rt; out.join("a"), BindOut::Bound);
+    assert!(rt; join(&mut out));
     let mut queue = SendFuture::new(alloc, 0, 2)?;
     assert!(rt; !queue.skip());
     for byte in 1..3 {
         assert!(rt; queue.try_put(RcSlice::from_slice(alloc, &[byte])?).is_ok());
     }
     assert!(rt; queue.skip());
-    assert_eq!(rt; queue.poll(&mut out).sent, 1);
-    assert_eq!(rt; out.sent(0), (0, [2].as_slice()));
+    assert_eq!(rt; poll(&mut queue, &mut out).sent, 1);
+    assert!(rt; has_sent(&out, 0, 0, &[2]));
     assert!(rt; out.told());
     Ok(())
 }

@@ -50,7 +50,7 @@ pub enum Received {
 pub struct Relay {
     alloc: Global,
     receive: RecvFuture,
-    receivers: Vec<Receiver>,
+    pub(crate) receivers: Vec<Receiver>,
     received: u64,
     refused: u64,
     ghost numbered: { AreNumbered receivers.items },
