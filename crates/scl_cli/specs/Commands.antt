@@ -71,3 +71,7 @@ SpellsNothing words = (command : Command) → Spells command words → ⊥
 -- The words begin with the first word of a command.
 abbrev pub Begins : Verb → List (List ℕ) → Type 0
 Begins v words = (more : List (List ℕ)) × (words ≡ verb_word v ∷ more)
+
+-- Where the words spell a command of this verb, it is the one found.
+abbrev pub FindsSpelt : Verb → List (List ℕ) → Option Command → Type 0
+FindsSpelt v words found = (command : Command) → verb_of command ≡ v → Spells command words → found ≡ Some command

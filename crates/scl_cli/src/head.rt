@@ -1,10 +1,10 @@
 //! `head`: the values of the main header that the input begins with, in lines.
-ghost use Rattle.std.specs.Prelude.{◌≡◌, List, IfSome, Some};
+ghost use Rattle.std.specs.Prelude.{List, IfSome};
 ghost use Rattle.scl_outside.specs.Events.{Event};
 ghost use Rattle.scl_run.specs.Performing.{Performs};
 ghost use Rattle.scl_cli.specs.declared.command.Command.{Command};
 ghost use Rattle.scl_cli.specs.declared.command.Verb.TheVariants as verbs;
-ghost use Rattle.scl_cli.specs.Commands.{Spells, Begins, verb_of};
+ghost use Rattle.scl_cli.specs.Commands.{Spells, Begins, FindsSpelt};
 ghost use Rattle.scl_cli.specs.HeadLines.{head_lines};
 ghost use Rattle.scl_cli.specs.HeaderJobs.{head_job};
 ghost use Rattle.scl_cli.specs.Showing.{Shows};
@@ -20,7 +20,7 @@ use scl_run::Ending;
 pub fn head_of(words: &Words) -> Option<Command>
     requires { Begins verbs.Head words.now }
     ensures spelt { IfSome result (λ command. Spells command words.now) }
-    ensures all { (command : Command) → verb_of command ≡ verbs.Head → Spells command words.now → result ≡ Some command }
+    ensures all { FindsSpelt verbs.Head words.now result }
 {
     if words.len() == 1 {
         Some(Command::Head)

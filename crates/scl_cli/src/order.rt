@@ -1,10 +1,10 @@
 //! `order`: the precincts of the main header that the input begins with, in lines in the order of their packets.
-ghost use Rattle.std.specs.Prelude.{◌≡◌, List, IfSome, Some};
+ghost use Rattle.std.specs.Prelude.{List, IfSome};
 ghost use Rattle.scl_outside.specs.Events.{Event};
 ghost use Rattle.scl_run.specs.Performing.{Performs};
 ghost use Rattle.scl_cli.specs.declared.command.Command.{Command};
 ghost use Rattle.scl_cli.specs.declared.command.Verb.TheVariants as verbs;
-ghost use Rattle.scl_cli.specs.Commands.{Spells, Begins, verb_of};
+ghost use Rattle.scl_cli.specs.Commands.{Spells, Begins, FindsSpelt};
 ghost use Rattle.scl_cli.specs.OrderLines.{order_lines};
 ghost use Rattle.scl_cli.specs.HeaderJobs.{order_job};
 ghost use Rattle.scl_cli.specs.Showing.{Shows};
@@ -22,7 +22,7 @@ use scl_run::Ending;
 pub fn order_of(words: &Words) -> Option<Command>
     requires { Begins verbs.Order words.now }
     ensures spelt { IfSome result (λ command. Spells command words.now) }
-    ensures all { (command : Command) → verb_of command ≡ verbs.Order → Spells command words.now → result ≡ Some command }
+    ensures all { FindsSpelt verbs.Order words.now result }
 {
     if words.len() == 1 {
         Some(Command::Order)

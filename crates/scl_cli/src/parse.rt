@@ -1,8 +1,8 @@
 //! The words of `parse`.
-ghost use Rattle.std.specs.Prelude.{◌≡◌, IfSome, Some};
+ghost use Rattle.std.specs.Prelude.{IfSome};
 ghost use Rattle.scl_cli.specs.declared.command.Command.{Command};
 ghost use Rattle.scl_cli.specs.declared.command.Verb.TheVariants as verbs;
-ghost use Rattle.scl_cli.specs.Commands.{Spells, Begins, verb_of};
+ghost use Rattle.scl_cli.specs.Commands.{Spells, Begins, FindsSpelt};
 
 use crate::command::Stamps;
 use crate::numbers::number_within;
@@ -12,7 +12,7 @@ use crate::{Command, Words};
 pub fn parse_of(words: &Words) -> Option<Command>
     requires { Begins verbs.Parse words.now }
     ensures spelt { IfSome result (λ command. Spells command words.now) }
-    ensures all { (command : Command) → verb_of command ≡ verbs.Parse → Spells command words.now → result ≡ Some command }
+    ensures all { FindsSpelt verbs.Parse words.now result }
 {
     if words.len() != 3 {
         return None;

@@ -2,7 +2,7 @@
 ghost use Rattle.std.specs.Prelude.{◌≡◌, ◌≤◌, ◌<◌, ◌^◌, ℕ, Option, IfSome, Some};
 ghost use Rattle.scl_cli.specs.declared.command.Command.{Command};
 ghost use Rattle.scl_cli.specs.declared.command.Verb.TheVariants as verbs;
-ghost use Rattle.scl_cli.specs.Commands.{Spells, Begins, verb_of, source_word, IsSource};
+ghost use Rattle.scl_cli.specs.Commands.{Spells, Begins, FindsSpelt, source_word, IsSource};
 
 use crate::numbers::number_within;
 use crate::{Command, Words};
@@ -24,7 +24,7 @@ fn source_in(word: &str) -> Option<Option<u32>>
 pub fn report_of(words: &Words) -> Option<Command>
     requires { Begins verbs.Report words.now }
     ensures spelt { IfSome result (λ command. Spells command words.now) }
-    ensures all { (command : Command) → verb_of command ≡ verbs.Report → Spells command words.now → result ≡ Some command }
+    ensures all { FindsSpelt verbs.Report words.now result }
 {
     if words.len() != 4 {
         return None;

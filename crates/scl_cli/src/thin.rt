@@ -6,7 +6,7 @@ ghost use Rattle.scl_payload.specs.Heads.{fields_of};
 ghost use Rattle.scl_run.specs.Performing.{Performs};
 ghost use Rattle.scl_cli.specs.declared.command.Command.{Command};
 ghost use Rattle.scl_cli.specs.declared.command.Verb.TheVariants as verbs;
-ghost use Rattle.scl_cli.specs.Commands.{Spells, Begins, verb_of};
+ghost use Rattle.scl_cli.specs.Commands.{Spells, Begins, FindsSpelt};
 ghost use Rattle.scl_cli.specs.ThinJob.{thin_job};
 ghost use Rattle.scl_cli.specs.Thinning.{Passes, Turns};
 
@@ -35,7 +35,7 @@ fn limit_of(word: &str) -> Option<u8>
 pub fn thin_of(words: &Words) -> Option<Command>
     requires { Begins verbs.Thin words.now }
     ensures spelt { IfSome result (λ command. Spells command words.now) }
-    ensures all { (command : Command) → verb_of command ≡ verbs.Thin → Spells command words.now → result ≡ Some command }
+    ensures all { FindsSpelt verbs.Thin words.now result }
 {
     if words.len() != 2 {
         return None;
