@@ -6,7 +6,7 @@ use Rattle.std.proofs.Math.Nat.{lt-div-mul-add, div-lt_iff_lt-mul}
 use Rattle.codestream_model.specs.Values.{Head, Place}
 use Rattle.codestream_model.specs.Areas.{ceil_div, step_of}
 use Rattle.codestream_model.specs.Precincts.{precinct_exponents, precinct_columns}
-use Rattle.codestream_model.specs.PacketOrder.{anchor}
+use Rattle.codestream_model.specs.PacketOrder.{anchor, rank}
 use Rattle.codestream_model.specs.GeometryLaws.{QuotientIsRoundedUp, KeysAreDistinct}
 use Rattle.codestream_model.proofs.Numbers.{same_place}
 
@@ -90,14 +90,14 @@ same_number h c r k j pos ys xs =
     (same_strip_at h.y0 (step_of h c).y (h.levels - r) (precinct_exponents h r).y (k / n) (j / n) pos.1 ys)
     (same_strip_at h.x0 (step_of h c).x (h.levels - r) (precinct_exponents h r).x (k % n) (j % n) pos.0 xs)
 
--- lists of four that are one have the same items
-same_four : (a b c d s t u v : ℕ) → a ∷ b ∷ c ∷ d ∷ [] ≡ s ∷ t ∷ u ∷ v ∷ [] → (a ≡ s) × (b ≡ t) × (c ≡ u) × (d ≡ v)
-same_four a b c d s t u v e = (cc, cc, cc, cc)
+-- lists of five that are one have the same items
+same_five : (r a b c d q s t u v : ℕ) → r ∷ a ∷ b ∷ c ∷ d ∷ [] ≡ q ∷ s ∷ t ∷ u ∷ v ∷ [] → (a ≡ s) × (b ≡ t) × (c ≡ u) × (d ≡ v)
+same_five r a b c d q s t u v e = (cc, cc, cc, cc)
 
 -- two precincts have two keys
 pub keys_are_distinct : KeysAreDistinct
 keys_are_distinct h p q steps a b e =
-    let four = same_four (anchor h p).y (anchor h p).x p.c p.r (anchor h q).y (anchor h q).x q.c q.r e in
+    let four = same_five (rank h p.r) (anchor h p).y (anchor h p).x p.c p.r (rank h q.r) (anchor h q).y (anchor h q).x q.c q.r e in
     let moved : q ≡ record { c = p.c; r = p.r; k = q.k } = same_place q (record { c = p.c; r = p.r; k = q.k }) (sym four.2) (sym four.3) refl in
     let ys : (anchor h p).y ≡ (anchor h (record { c = p.c; r = p.r; k = q.k })).y = four.0 ∙ ap (λ (w : Place). (anchor h w).y) moved in
     let xs : (anchor h p).x ≡ (anchor h (record { c = p.c; r = p.r; k = q.k })).x = four.1 ∙ ap (λ (w : Place). (anchor h w).x) moved in

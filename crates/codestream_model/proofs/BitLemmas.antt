@@ -2,7 +2,8 @@
 use Rattle.std.proofs.Common.{◌≡◌, ◌<◌, ◌≤◌, ◌+◌, ◌-◌, ◌*◌, ◌/◌, ◌%◌, ◌^◌, ◌==◌, ℕ, zero, suc, Bool, true, false, List, [], ◌∷◌, ◌++◌, length, take, refl, sym, ◌∙◌, ap, arith}
 use Rattle.std.proofs.lemmas.Nat.{pow_pos, pow-add, div-mul-add, div-add-mod'}
 use Rattle.std.proofs.Math.Nat.{mul-add-div_right, pow-suc, div-eq_of_lt, div-lt_iff_lt-mul, mod-lt, sub-zero}
-use Rattle.codestream_model.specs.StuffedBits.{bit, number_bits, number_of}
+use Rattle.codestream_model.specs.Bytes.{bit}
+use Rattle.codestream_model.specs.StuffedBits.{number_bits, number_of}
 
 -- the first so many bits, with 0 for those that aren't there
 unfoldable pub padded : ℕ → List Bool → List Bool

@@ -6,7 +6,7 @@ use Rattle.std.proofs.lemmas.List.{append-nil, length-append, length-take, take_
 use Rattle.codestream_model.specs.Values.{Grid, Block}
 use Rattle.codestream_model.specs.Bytes.{IsBytes}
 use Rattle.codestream_model.specs.StuffedBits.{IsStuffed, width_after, number_bits, carried_after, carried, sound_after, bytes_of_bits}
-use Rattle.codestream_model.specs.HeaderPieces.{HeaderRefusal, Stuffed, ZeroPlanes, Passes, LengthBits, CleanupShort, CleanupLong, RefineLong, TooLong, Piece, InclusionPiece, PlanesPiece, PassesPiece, LblockPiece, CleanupPiece, RefinePiece, fault_of}
+use Rattle.codestream_model.specs.HeaderPieces.{HeaderRefusal, Stuffed, ZeroPlanes, Passes, LengthBits, CleanupShort, CleanupLong, RefineLong, TooLong, NoEph, Piece, InclusionPiece, PlanesPiece, PassesPiece, LblockPiece, CleanupPiece, RefinePiece, fault_of}
 use Rattle.codestream_model.specs.PacketHeader.{HaveOwnBands, WantsMore, IsTooLong, IsBrokenStuffing, IsRefusedPiece, RefusesHeader, NeedsHeaderBytes}
 use Rattle.codestream_model.specs.PacketHeaderReading.{Done, Need, Bad, Read, Got, AtEnd, Refused, read_bits, end_by, at_end, closed_by, readable_bits, header_of}
 use Rattle.codestream_model.specs.PacketLaws.{RefusalsAreSound, NeedsAreSound}
@@ -54,29 +54,29 @@ ends_in_ff [] e = absurd (omega arith)
 ends_in_ff (x ∷ xs) e = last_split 0 x xs 255 e
 
 -- no piece is refused for what bytes have
-not_of_bytes : (p : Piece) (why : HeaderRefusal) → fault_of p ≡ Some why → (why ≢ Stuffed) × (why ≢ TooLong)
+not_of_bytes : (p : Piece) (why : HeaderRefusal) → fault_of p ≡ Some why → (why ≢ Stuffed) × (why ≢ TooLong) × (why ≢ NoEph)
 not_of_bytes (InclusionPiece b) why e = absurd (cc)
 not_of_bytes (PlanesPiece s) why e = elim (either (nat_le s.to 74)) [
   | inl t ↦ let f : None ≡ Some why = rw t at e in absurd (cc)
-  | inr t ↦ let f : Some ZeroPlanes ≡ Some why = rw t at e in (λ h. cc, λ h. cc)
+  | inr t ↦ let f : Some ZeroPlanes ≡ Some why = rw t at e in (λ h. cc, λ h. cc, λ h. cc)
 ]
 not_of_bytes (PassesPiece n) why e = elim (either (nat_le n 3)) [
   | inl t ↦ let f : None ≡ Some why = rw t at e in absurd (cc)
-  | inr t ↦ let f : Some Passes ≡ Some why = rw t at e in (λ h. cc, λ h. cc)
+  | inr t ↦ let f : Some Passes ≡ Some why = rw t at e in (λ h. cc, λ h. cc, λ h. cc)
 ]
 not_of_bytes (LblockPiece n) why e = elim (either (nat_le n 24)) [
   | inl t ↦ let f : None ≡ Some why = rw t at e in absurd (cc)
-  | inr t ↦ let f : Some LengthBits ≡ Some why = rw t at e in (λ h. cc, λ h. cc)
+  | inr t ↦ let f : Some LengthBits ≡ Some why = rw t at e in (λ h. cc, λ h. cc, λ h. cc)
 ]
 not_of_bytes (CleanupPiece width n) why e = elim (either (nat_lt n 2)) [
-  | inl t ↦ let f : Some CleanupShort ≡ Some why = rw t at e in (λ h. cc, λ h. cc)
+  | inl t ↦ let f : Some CleanupShort ≡ Some why = rw t at e in (λ h. cc, λ h. cc, λ h. cc)
   | inr t ↦ elim (either (nat_le 65535 n)) [
-    | inl u ↦ let f : Some CleanupLong ≡ Some why = rw (t, u) at e in (λ h. cc, λ h. cc)
+    | inl u ↦ let f : Some CleanupLong ≡ Some why = rw (t, u) at e in (λ h. cc, λ h. cc, λ h. cc)
     | inr u ↦ let f : None ≡ Some why = rw (t, u) at e in absurd (cc)
   ]
 ]
 not_of_bytes (RefinePiece width n) why e = elim (either (nat_le 2047 n)) [
-  | inl t ↦ let f : Some RefineLong ≡ Some why = rw t at e in (λ h. cc, λ h. cc)
+  | inl t ↦ let f : Some RefineLong ≡ Some why = rw t at e in (λ h. cc, λ h. cc, λ h. cc)
   | inr t ↦ let f : None ≡ Some why = rw t at e in absurd (cc)
 ]
 
@@ -90,6 +90,7 @@ piece_refuses gs bytes LengthBits t = t
 piece_refuses gs bytes CleanupShort t = t
 piece_refuses gs bytes CleanupLong t = t
 piece_refuses gs bytes RefineLong t = t
+piece_refuses gs bytes NoEph t = absurd ((not_of_bytes t.fault.piece NoEph t.fault.fault).2 refl)
 
 -- the sound front of the bytes that are read
 abbrev front_of : List ℕ → List ℕ

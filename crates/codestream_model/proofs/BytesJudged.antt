@@ -5,7 +5,7 @@ use Rattle.std.proofs.lemmas.List.{append-nil, length-append, take_all}
 use Rattle.std.proofs.Math.Seq.{take-append-add}
 use Rattle.codestream_model.specs.Values.{Grid, Block}
 use Rattle.codestream_model.specs.StuffedBits.{IsStuffed, carried_after, carried, sound_after, bytes_of_bits}
-use Rattle.codestream_model.specs.HeaderPieces.{HeaderRefusal, Stuffed, ZeroPlanes, Passes, LengthBits, CleanupShort, CleanupLong, RefineLong, TooLong, bits_of, deciding_bits}
+use Rattle.codestream_model.specs.HeaderPieces.{HeaderRefusal, Stuffed, ZeroPlanes, Passes, LengthBits, CleanupShort, CleanupLong, RefineLong, TooLong, NoEph, bits_of, deciding_bits}
 use Rattle.codestream_model.specs.PacketHeader.{HaveOwnBands, LacksClosing, WantsMore, IsTooLong, IsBrokenStuffing, HasFault, IsRefusedPiece}
 use Rattle.codestream_model.specs.PacketHeaderReading.{Need, Bad, Read, Got, AtEnd, Refused, read_bits, end_by, at_end, closed_by, readable_bits, answer_of, header_of}
 use Rattle.codestream_model.specs.PacketLaws.{RefusalsAreRead, NeedsAreRead}
@@ -165,3 +165,4 @@ refusal_read gs bytes LengthBits bands t = piece_read gs bytes LengthBits bands 
 refusal_read gs bytes CleanupShort bands t = piece_read gs bytes CleanupShort bands t
 refusal_read gs bytes CleanupLong bands t = piece_read gs bytes CleanupLong bands t
 refusal_read gs bytes RefineLong bands t = piece_read gs bytes RefineLong bands t
+refusal_read gs bytes NoEph bands t = absurd t

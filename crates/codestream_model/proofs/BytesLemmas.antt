@@ -1,5 +1,5 @@
 -- Bytes whose first bits are a header's, and which end as an answer says, are a header.
-use Rattle.std.proofs.Common.{◌≡◌, ◌<◌, ◌≤◌, ◌+◌, ◌-◌, ◌==◌, ◌&&◌, ℕ, suc, Bool, true, false, List, [], ◌∷◌, ◌++◌, length, take, drop, nat_le, nat_lt, slice_index, Option, Some, None, refl, sym, ◌∙◌, ap, subst, inl, inr, arith, append_assoc, if◌then◌else◌}
+use Rattle.std.proofs.Common.{zero, suc, ◌≡◌, ◌<◌, ◌≤◌, ◌+◌, ◌-◌, ◌==◌, ◌&&◌, ℕ, Bool, true, false, List, [], ◌∷◌, ◌++◌, length, take, drop, nat_le, nat_lt, slice_index, Option, Some, None, refl, sym, ◌∙◌, ap, subst, inl, inr, arith, append_assoc, if◌then◌else◌}
 use Rattle.std.proofs.lemmas.Bool.{and_parts, leb-true, leb-false, cases_lt}
 use Rattle.std.proofs.lemmas.Bool.Decides.{eqb_tells, leb_tells}
 use Rattle.std.proofs.lemmas.List.{length-append, length-take, take-append-drop, take_at, get_or_append_left, get_or_past, take-append-le}
@@ -147,6 +147,12 @@ front_of : (xs ys us vs : List Bool) → xs ++ us ≡ ys ++ vs → length ys ≤
 front_of xs ys us vs e h =
     let t : take (length ys) xs ≡ ys = sym (take-append-le (length ys) xs us h) ∙ (ap (take (length ys)) e ∙ take_at ys vs (length ys) refl) in
     sym (take-append-drop (length ys) xs) ∙ ap (λ (l : List Bool). l ++ drop (length ys) xs) t
+
+-- bytes after bytes are bytes
+pub bytes_join : (xs ys : List ℕ) → IsBytes xs → IsBytes ys → IsBytes (xs ++ ys)
+bytes_join [] ys a b i = b i
+bytes_join (x ∷ xs) ys a b zero = a zero
+bytes_join (x ∷ xs) ys a b (suc i) = bytes_join xs ys (λ j. a (suc j)) b i
 
 -- the front of bytes are bytes
 pub bytes_front : (xs ys : List ℕ) → IsBytes (xs ++ ys) → IsBytes xs

@@ -8,7 +8,6 @@ use Rattle.codestream_model.specs.Values.{Head, Place}
 use Rattle.codestream_model.specs.HeadRefusals.{HeadRefusal, Cut as HeadCut}
 use Rattle.codestream_model.specs.MainHeader.{SpellsHead}
 use Rattle.codestream_model.specs.RefusedHeader.{RefusesHead}
-use Rattle.codestream_model.specs.Precincts.{grids}
 use Rattle.codestream_model.specs.PacketOrder.{IsPacketOrder}
 use Rattle.codestream_model.specs.Packet.{Content}
 use Rattle.codestream_model.specs.Codestream.{SpellsPackets, SpellsCodestream, IsPsotRight, WalkRefusal, HeadRefused, Cut, TooManyBlocks, HeaderRefused, PacketTooLong, Psot, NoEoc, InputTooLong, TooManyFrames, BeginsCodestream, RefusesCodestream, NeedsCodestreamBytes}
@@ -16,7 +15,6 @@ use Rattle.codestream_model.proofs.TreeLemmas.{either, equal_number}
 use Rattle.codestream_model.proofs.HeaderJudged.{header_is_one, refusal_is_one, header_is_not_refused}
 use Rattle.codestream_model.proofs.Orders.{packet_order_is_one}
 use Rattle.codestream_model.proofs.OneWayLemmas.{same_front}
-use Rattle.codestream_model.proofs.OwnBands.{own_bands}
 use Rattle.codestream_model.proofs.PacketVerdicts.{Fits, Faulty, Short, packet_step, step_fits, step_many, step_refused, step_long, step_short}
 
 -- a codestream of so many bytes stands there, or it is refused at a place, or more bytes are needed
@@ -39,24 +37,24 @@ at_eoc true at (a ∷ b ∷ more) = if (a == 255) && (b == 217) then Whole (at +
 -- where the packets of these precincts should
 unfoldable pub behind : Head → List Place → ℕ → List ℕ → Verdict
 behind h [] at rest = at_eoc (is_psot h at) at rest
-behind h (p ∷ later) at rest = elim (packet_step (grids h p) rest) [
+behind h (p ∷ later) at rest = elim (packet_step h p rest) [
   | Fits n ↦ behind h later (at + n) (drop n rest)
   | Faulty why ↦ Refuses at why
   | Short ↦ Wants
 ]
 
 -- behind a packet
-behind_fits : (h : Head) (p : Place) (later : List Place) (at n : ℕ) (rest : List ℕ) → packet_step (grids h p) rest ≡ Fits n → behind h (p ∷ later) at rest ≡ behind h later (at + n) (drop n rest)
+behind_fits : (h : Head) (p : Place) (later : List Place) (at n : ℕ) (rest : List ℕ) → packet_step h p rest ≡ Fits n → behind h (p ∷ later) at rest ≡ behind h later (at + n) (drop n rest)
 unfolding behind
 behind_fits h p later at n rest e = rw (e, behind) refl
 
 -- where one is refused
-behind_faulty : (h : Head) (p : Place) (later : List Place) (at : ℕ) (rest : List ℕ) (why : WalkRefusal) → packet_step (grids h p) rest ≡ Faulty why → behind h (p ∷ later) at rest ≡ Refuses at why
+behind_faulty : (h : Head) (p : Place) (later : List Place) (at : ℕ) (rest : List ℕ) (why : WalkRefusal) → packet_step h p rest ≡ Faulty why → behind h (p ∷ later) at rest ≡ Refuses at why
 unfolding behind
 behind_faulty h p later at rest why e = rw (e, behind) refl
 
 -- where the bytes end in one
-behind_short : (h : Head) (p : Place) (later : List Place) (at : ℕ) (rest : List ℕ) → packet_step (grids h p) rest ≡ Short → behind h (p ∷ later) at rest ≡ Wants
+behind_short : (h : Head) (p : Place) (later : List Place) (at : ℕ) (rest : List ℕ) → packet_step h p rest ≡ Short → behind h (p ∷ later) at rest ≡ Wants
 unfolding behind
 behind_short h p later at rest e = rw (e, behind) refl
 
@@ -211,11 +209,11 @@ whole_verdict h content codestream more s =
 pub refused_verdict : (bytes : List ℕ) (at : ℕ) (why : WalkRefusal) → RefusesCodestream bytes at why → HasVerdict bytes (Refuses at why)
 refused_verdict bytes at (HeadRefused why) (r, other) = inr (at, why, r, inr (other, refl))
 refused_verdict bytes at TooManyBlocks (h, p, later, rest, b, many) =
-    begun_verdict h (p ∷ later) at rest bytes (Refuses at TooManyBlocks) b (behind_faulty h p later at rest TooManyBlocks (step_many (grids h p) rest many))
+    begun_verdict h (p ∷ later) at rest bytes (Refuses at TooManyBlocks) b (behind_faulty h p later at rest TooManyBlocks (step_many h p rest many))
 refused_verdict bytes at (HeaderRefused why) (h, p, later, rest, b, r) =
-    begun_verdict h (p ∷ later) at rest bytes (Refuses at (HeaderRefused why)) b (behind_faulty h p later at rest (HeaderRefused why) (step_refused (grids h p) rest why (own_bands h p) r.0 r.1))
+    begun_verdict h (p ∷ later) at rest bytes (Refuses at (HeaderRefused why)) b (behind_faulty h p later at rest (HeaderRefused why) (step_refused h p rest why r.0 r.1))
 refused_verdict bytes at PacketTooLong (h, p, later, rest, b, long) =
-    begun_verdict h (p ∷ later) at rest bytes (Refuses at PacketTooLong) b (behind_faulty h p later at rest PacketTooLong (step_long (grids h p) rest (own_bands h p) long))
+    begun_verdict h (p ∷ later) at rest bytes (Refuses at PacketTooLong) b (behind_faulty h p later at rest PacketTooLong (step_long h p rest long))
 refused_verdict bytes at Psot (h, rest, b, wrong) = begun_verdict h [] at rest bytes (Refuses at Psot) b (behind_all h at rest false (psot_failed h at wrong))
 refused_verdict bytes at NoEoc (h, rest, b, (psot, (a, c, more, e, differ))) =
     begun_verdict h [] at rest bytes (Refuses at NoEoc) b (behind_all h at rest true (psot_tested h at psot) ∙ (ap (at_eoc true at) e ∙ other_eoc at a c more differ))
@@ -227,6 +225,6 @@ refused_verdict bytes at TooManyFrames r = absurd r
 pub unfinished_verdict : (bytes : List ℕ) → NeedsCodestreamBytes bytes → HasVerdict bytes Wants
 unfinished_verdict bytes (at, inl r) = inr (at, HeadCut, r, inl (refl, refl))
 unfinished_verdict bytes (at, inr (inl (h, p, later, rest, b, n))) =
-    begun_verdict h (p ∷ later) at rest bytes Wants b (behind_short h p later at rest (step_short (grids h p) rest (own_bands h p) n))
+    begun_verdict h (p ∷ later) at rest bytes Wants b (behind_short h p later at rest (step_short h p rest n))
 unfinished_verdict bytes (at, inr (inr (h, rest, b, (psot, less)))) =
     begun_verdict h [] at rest bytes Wants b (behind_all h at rest true (psot_tested h at psot) ∙ short_eoc at rest less)

@@ -1,7 +1,6 @@
 -- Of all bytes one thing holds: they begin with a codestream, or are refused where one should begin, or end inside one.
 use Rattle.std.proofs.Common.{◌≡◌, ◌⊎◌, ◌<◌, ◌+◌, ◌==◌, ◌&&◌, ℕ, Bool, true, false, List, [], ◌∷◌, ◌++◌, length, take, drop, Result, Ok, Err, subst, refl, sym, ◌∙◌, ap, inl, inr, arith, append_assoc}
 use Rattle.std.specs.Prelude.{MatchResult}
-use Rattle.std.specs.List.{AllByRecursion}
 use Rattle.std.proofs.lemmas.Bool.{and_parts}
 use Rattle.std.proofs.lemmas.List.{append-nil, length-append, take-append-drop, drop_at}
 use Rattle.std.proofs.lemmas.List.Elements.{All-weaker}
@@ -12,8 +11,6 @@ use Rattle.codestream_model.specs.HeadRefusals.{HeadRefusal, Cut as HeadCut}
 use Rattle.codestream_model.specs.MainHeader.{SpellsHead}
 use Rattle.codestream_model.specs.MainHeaderReading.{Refused, head_of}
 use Rattle.codestream_model.specs.RefusedHeader.{RefusesHead}
-use Rattle.codestream_model.specs.Precincts.{grids}
-use Rattle.codestream_model.specs.PacketHeader.{HaveOwnBands}
 use Rattle.codestream_model.specs.PacketOrder.{IsPacketOrder, packet_order}
 use Rattle.codestream_model.specs.Packet.{Content, SpellsPacket}
 use Rattle.codestream_model.specs.Codestream.{SpellsPackets, IsPsotRight, WalkRefusal, HeadRefused, TooManyBlocks, HeaderRefused, PacketTooLong, Psot, NoEoc, BeginsCodestream, RefusesCodestream, NeedsCodestreamBytes}
@@ -23,8 +20,8 @@ use Rattle.codestream_model.proofs.SegmentBytes.{bytes-take, bytes-drop}
 use Rattle.codestream_model.proofs.HeaderJudged.{headers_are_judged, header_is_one}
 use Rattle.codestream_model.proofs.HeaderLimits.{header_is_within_limits}
 use Rattle.codestream_model.proofs.Orders.{packet_order_is_computed, packet_order_is_one}
-use Rattle.codestream_model.proofs.OneWayLemmas.{same_front, one_run}
-use Rattle.codestream_model.proofs.OwnBands.{own_bands}
+use Rattle.codestream_model.proofs.OneWayLemmas.{same_front}
+use Rattle.codestream_model.proofs.PacketsOneWay.{one_run}
 use Rattle.codestream_model.proofs.PacketVerdicts.{IsThere, HasMany, IsRefused, IsLong, IsShort, what_stands}
 use Rattle.codestream_model.proofs.CodestreamVerdicts.{Whole, Refuses, Wants, is_psot, psot_right, psot_tested, HasVerdict, verdict_is_one, whole_verdict, refused_verdict, unfinished_verdict}
 
@@ -186,11 +183,6 @@ codestream_verdict bytes = record {
 whole_parts : (m n : ℕ) → Whole m ≡ Whole n → m ≡ n
 whole_parts m n e = cc
 
--- each precinct's grids are of different bands
-each_own : (h : Head) (places : List Place) → AllByRecursion (λ p. HaveOwnBands (grids h p)) places
-each_own h [] = tt
-each_own h (p ∷ places) = (own_bands h p, each_own h places)
-
 -- codestreams
 pub one_codestream : CodestreamsAreReadOneWay
 one_codestream h g content others codestream other more rest s t e =
@@ -206,5 +198,5 @@ one_codestream h g content others codestream other more rest s t e =
     let places : t.places ≡ s.places = sym (packet_order_is_one h s.places t.places s.order (subst O (sym heads.0) t.order)) in
     let H : Head → Type 0 = λ k. SpellsPackets k t.places others t.packets in
     let Q : List Place → Type 0 = λ ps. SpellsPackets h ps others t.packets in
-    let run = one_run h s.places content others s.packets t.packets (255 ∷ 217 ∷ []) (255 ∷ 217 ∷ []) (each_own h s.places) s.are_packets (subst Q places (subst H (sym heads.0) t.are_packets)) behind in
+    let run = one_run h s.places content others s.packets t.packets (255 ∷ 217 ∷ []) (255 ∷ 217 ∷ []) s.are_packets (subst Q places (subst H (sym heads.0) t.are_packets)) behind in
     (same, heads.0, run.1)

@@ -1,15 +1,16 @@
 -- The values of accepted headers lie within the limits, and no component of one is without precincts.
-use Rattle.std.proofs.Common.{◌≡◌, ◌<◌, ◌≤◌, ◌+◌, ◌*◌, ◌/◌, ◌%◌, ◌^◌, ◌||◌, ℕ, suc, Bool, true, false, List, [], ◌∷◌, ◌++◌, length, get_or, drop, refl, sym, ◌∙◌, ap, inl, inr, subst, arith}
+use Rattle.std.proofs.Common.{◌≡◌, ◌<◌, ◌≤◌, ◌+◌, ◌*◌, ◌/◌, ◌%◌, ◌^◌, ◌==◌, ◌⊎◌, ◌||◌, ℕ, suc, Bool, true, false, not, List, [], ◌∷◌, ◌++◌, length, get_or, drop, refl, sym, ◌∙◌, ap, inl, inr, subst, arith}
 use Rattle.std.specs.Prelude.{◌==◌, ◌≢◌, slice_index, nat_le, if◌then◌else◌}
 use Rattle.std.specs.List.{All, AllByRecursion, list_any, range_with_len}
 use Rattle.std.proofs.lemmas.Bool.{cases_Bool, cases_lt, ltb-false, leb-false, eqb-true, eqb-false, or_left, or_parts, or_cases}
 use Rattle.std.proofs.lemmas.List.{length-append, length-map, get_or-append-add, get_or_append_left, get_or_past}
 use Rattle.std.proofs.lemmas.List.Elements.{All-from_recursion, All-map}
 use Rattle.std.proofs.lemmas.List.FromFn.{length-range_with_len}
+use Rattle.std.proofs.lemmas.Bool.Decides.{eqb_tells}
 use Rattle.codestream_model.specs.Values.{Pair, Head, Place}
 use Rattle.codestream_model.specs.Bytes.{two_bytes, four_at, IsBytes}
 use Rattle.codestream_model.specs.Segments.{SOC, SIZ, CAP, COD, SOD, Segment, stated_length, segment_bytes, segments_bytes, stands, content_of}
-use Rattle.codestream_model.specs.SegmentTests.{siz_tests, cod_tests, tile_tests, xsiz, ysiz, xosiz, yosiz, csiz, siz_steps, is_empty, cod_block, cod_levels, cod_precinct, cod_precincts, has_sizes, head_values, has_great_pid}
+use Rattle.codestream_model.specs.SegmentTests.{cod_order, siz_tests, cod_tests, tile_tests, xsiz, ysiz, xosiz, yosiz, csiz, siz_steps, is_empty, cod_block, cod_levels, cod_precinct, cod_precincts, has_sizes, head_values, has_great_pid}
 use Rattle.codestream_model.specs.Areas.{ceil_div}
 use Rattle.codestream_model.specs.Precincts.{IsPrecinct}
 use Rattle.codestream_model.specs.PacketOrder.{pid}
@@ -68,7 +69,7 @@ positive x e = let ne : x ≢ 0 = eqb-false x 0 e in omega arith
 -- what SIZ gives
 record SizFacts (c : List ℕ) : Type 0 where
   some : 1 ≤ csiz c
-  few : csiz c ≤ 4
+  few : csiz c ≤ 16
   x_end : xsiz c < 2 ^ 31
   y_end : ysiz c < 2 ^ 31
   wide : xosiz c < xsiz c
@@ -86,7 +87,7 @@ siz_facts c e =
     let k12 = k8.1.1.1.1 in
     record {
       some = positive (csiz c) k.0;
-      few = ltb-false 4 (csiz c) k.1.0;
+      few = ltb-false 16 (csiz c) k.1.0;
       x_end = leb-false (2 ^ 31) (xsiz c) k4.0;
       y_end = leb-false (2 ^ 31) (ysiz c) k4.1.0;
       wide = leb-false (xsiz c) (xosiz c) k4.1.1.0;
@@ -114,20 +115,32 @@ components_are c f = λ k d lt.
 
 -- what COD gives
 record CodFacts (c : List ℕ) : Type 0 where
+  known_order : (cod_order c ≡ 2) ⊎ (cod_order c ≡ 3)
   few_levels : cod_levels c ≤ 15
   most_x : slice_index c 6 ≤ 8
   most_y : slice_index c 7 ≤ 8
   size : (cod_block c).x + (cod_block c).y ≤ 12
   no_zero : list_any (λ e. e.x == 0 || e.y == 0) (drop 1 (cod_precincts c)) ≡ false
 
+-- a number that isn't neither of two is one of them
+one_of_two : (n : ℕ) → not (n == 2 || n == 3) ≡ false → (n ≡ 2) ⊎ (n ≡ 3)
+one_of_two n e = elim (eqb_tells n 2) [
+  | inl t ↦ inl t.1
+  | inr t ↦ elim (eqb_tells n 3) [
+    | inl u ↦ inr u.1
+    | inr u ↦ let c : true ≡ false = rw (t.0, u.0) at e in absurd (cc)
+  ]
+]
+
 -- COD that meets no condition gives them
 cod_facts : (c : List ℕ) → Passes (cod_tests c) → CodFacts c
 unfolding cod_tests
 cod_facts c e =
     let k = checks (cod_tests c) e in
-    let k5 = k.1.1.1.1.1 in
+    let k5 = k.1.1.1.1 in
     let k7 = k5.1.1 in
     record {
+      known_order = one_of_two (cod_order c) k.1.1.0;
       few_levels = ltb-false 15 (cod_levels c) k5.0;
       most_x = ltb-false 8 (slice_index c 6) k7.0;
       most_y = ltb-false 8 (slice_index c 7) k7.1.0;
@@ -161,7 +174,7 @@ unfolding tile_tests
 no_great_pid main c e = let k = checks (tile_tests main c) e in k.1.1.1.1.1.0
 
 -- no PID is great where none is found
-pids_fit : (h : Head) → length h.steps ≤ 4 → has_great_pid h ≡ false → (p : Place) → IsPrecinct h p → pid h p < 2 ^ 20
+pids_fit : (h : Head) → length h.steps ≤ 16 → has_great_pid h ≡ false → (p : Place) → IsPrecinct h p → pid h p < 2 ^ 20
 pids_fit h few none p a = elim (cases_lt (pid h p) (2 ^ 20)) [
   | inl small ↦ small
   | inr great ↦ let found : has_great_pid h ≡ true = (great_pids_are_found h (omega arith)).1 (p, a, great) in absurd (cc)
@@ -185,11 +198,11 @@ values_within : (main : List Segment) (c : List ℕ) (n : ℕ) → IsBytes (cont
 values_within main c n siz_fits cod_fits fits f g passed long short =
     let count : length (siz_steps (content_of SIZ main)) ≡ csiz (content_of SIZ main) = length-map (range_with_len 0 (csiz (content_of SIZ main))) (λ (i : ℕ). record { x = slice_index (content_of SIZ main) (37 + 3 * i); y = slice_index (content_of SIZ main) (38 + 3 * i) }) ∙ length-range_with_len 0 (csiz (content_of SIZ main)) in
     let some : 1 ≤ csiz (content_of SIZ main) = f.some in
-    let few : csiz (content_of SIZ main) ≤ 4 = f.few in
+    let few : csiz (content_of SIZ main) ≤ 16 = f.few in
     let samples = components_are (content_of SIZ main) f in
     let most_x : slice_index (content_of COD main) 6 ≤ 8 = g.most_x in
     let most_y : slice_index (content_of COD main) 7 ≤ 8 = g.most_y in
-    let few_steps : length (siz_steps (content_of SIZ main)) ≤ 4 = omega arith in
+    let few_steps : length (siz_steps (content_of SIZ main)) ≤ 16 = omega arith in
     record {
       some_component = omega arith;
       few_components = few_steps;
@@ -206,6 +219,7 @@ values_within main c n siz_fits cod_fits fits f g passed long short =
       each_resolution = length-map (range_with_len 0 (cod_levels (content_of COD main) + 1)) (cod_precinct (content_of COD main)) ∙ length-range_with_len 0 (cod_levels (content_of COD main) + 1);
       most_precinct = exponents_are (content_of COD main) cod_fits;
       least_precinct = least_exponents (content_of COD main) g;
+      known_order = g.known_order;
       few_pids = λ p a. pids_fit (head_values main c 0) few_steps (no_great_pid main c passed) p (record { component = a.component; resolution = a.resolution; number = a.number });
       psot_fits = four_fits c 2 fits;
       tile_fits = omega arith;

@@ -38,6 +38,7 @@ pub mod WrittenLemmas
 pub mod WorkedTrees
 pub mod WorkedPacketHeaders
 pub mod OneBlock
+pub mod WorkedMarkers
 pub mod WorkedPackets
 pub mod WorkedRefusals
 pub mod PieceRuns
@@ -56,6 +57,9 @@ pub mod BytesBack
 pub mod VerdictLemmas
 pub mod LimitLemmas
 pub mod OwnBands
+pub mod Marked
+pub mod MarkedVerdicts
+pub mod PacketsOneWay
 pub mod PacketVerdicts
 pub mod CodestreamVerdicts
 pub mod CodestreamsJudged

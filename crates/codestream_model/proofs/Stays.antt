@@ -7,7 +7,7 @@ use Rattle.codestream_model.specs.Codestream.{HeadRefused, Cut, TooManyBlocks, H
 use Rattle.codestream_model.specs.CodestreamLaws.{CodestreamRefusalsStay, CodestreamFrontsNeedBytes}
 use Rattle.codestream_model.proofs.CodestreamsJudged.{codestreams_judged, codestream_verdict, one_codestream}
 use Rattle.codestream_model.proofs.Standing.{refusal_stands}
-use Rattle.codestream_model.proofs.VerdictLemmas.{refusal_stays}
+use Rattle.codestream_model.proofs.Marked.{marked_refusal_stays}
 
 further : (h : Head) (later : List Place) (at : ℕ) (rest bytes more : List ℕ) → BeginsCodestream h later at rest bytes → BeginsCodestream h later at (rest ++ more) (bytes ++ more)
 further h later at rest bytes more b = record {
@@ -25,7 +25,7 @@ further h later at rest bytes more b = record {
 pub codestream_refusals_stay : CodestreamRefusalsStay
 codestream_refusals_stay bytes more at (HeadRefused why) (r, other) = (refusal_stands bytes more at why other r, other)
 codestream_refusals_stay bytes more at TooManyBlocks (h, p, later, rest, b, r) = (h, p, later, rest ++ more, further h (p ∷ later) at rest bytes more b, r)
-codestream_refusals_stay bytes more at (HeaderRefused why) (h, p, later, rest, b, r) = (h, p, later, rest ++ more, further h (p ∷ later) at rest bytes more b, (r.0, refusal_stays (grids h p) rest more why r.1))
+codestream_refusals_stay bytes more at (HeaderRefused why) (h, p, later, rest, b, r) = (h, p, later, rest ++ more, further h (p ∷ later) at rest bytes more b, (r.0, marked_refusal_stays (grids h p) h.eph rest more why r.1))
 codestream_refusals_stay bytes more at PacketTooLong (h, p, later, rest, b, r) =
     (h, p, later, rest ++ more, further h (p ∷ later) at rest bytes more b, record { blocks = r.blocks; header = r.header; rest = r.rest ++ more; begins = record { few_blocks = r.begins.few_blocks; is_header = r.begins.is_header; whole = ap (λ (l : List ℕ). l ++ more) r.begins.whole ∙ append_assoc r.header r.rest more }; long = r.long })
 codestream_refusals_stay bytes more at Psot (h, rest, b, r) = (h, rest ++ more, further h [] at rest bytes more b, r)

@@ -3,7 +3,7 @@ use Rattle.std.proofs.Common.{◌≡◌, ◌⊎◌, ℕ, List, [], ◌∷◌, �
 use Rattle.std.proofs.lemmas.List.{append-nil, length-append, take-append-drop}
 use Rattle.codestream_model.specs.Values.{Grid}
 use Rattle.codestream_model.specs.Bytes.{IsBytes}
-use Rattle.codestream_model.specs.HeaderPieces.{HeaderRefusal, Stuffed, ZeroPlanes, Passes, LengthBits, CleanupShort, CleanupLong, RefineLong, TooLong}
+use Rattle.codestream_model.specs.HeaderPieces.{HeaderRefusal, Stuffed, ZeroPlanes, Passes, LengthBits, CleanupShort, CleanupLong, RefineLong, TooLong, NoEph}
 use Rattle.codestream_model.specs.PacketHeader.{HaveOwnBands, IsRefusedPiece, RefusesHeader, NeedsHeaderBytes}
 use Rattle.codestream_model.specs.PacketHeaderReading.{HeaderReading, Done, Need, Bad, header_of}
 use Rattle.codestream_model.specs.PacketLaws.{BeginWithHeader, PacketHeadersAreJudged, PacketHeadersHaveOneVerdict, RefusalsStay, HeaderFrontsNeedBytes}
@@ -74,6 +74,7 @@ refusal_stays gs bytes more LengthBits t = piece_stays gs bytes more LengthBits 
 refusal_stays gs bytes more CleanupShort t = piece_stays gs bytes more CleanupShort t
 refusal_stays gs bytes more CleanupLong t = piece_stays gs bytes more CleanupLong t
 refusal_stays gs bytes more RefineLong t = piece_stays gs bytes more RefineLong t
+refusal_stays gs bytes more NoEph t = absurd t
 
 -- a header without its last bytes is unfinished
 pub front_needs : HeaderFrontsNeedBytes

@@ -7,7 +7,8 @@ use Rattle.codestream_model.specs.SegmentTests.{siz_tests, cap_tests, cod_tests,
 use Rattle.codestream_model.specs.RefusedHeader.{segment_tests, skipped_tests}
 use Rattle.codestream_model.specs.MainHeaderReading.{read_tile, read_main, head_of}
 use Rattle.codestream_model.proofs.Headers.{header, small_siz, small_cap, small_cod, small_qcd, small_sot, small_header, header_of_two_components}
-use Rattle.codestream_model.proofs.WorkedHeaders.{refused_at, plain_head}
+use Rattle.codestream_model.proofs.WorkedGeometry.{plain_head}
+use Rattle.codestream_model.proofs.WorkedHeaders.{refused_at}
 
 -- in front of SOT: SOD,
 pub no_sot : head_of (header (small_siz ∷ small_cap ∷ small_cod ∷ small_qcd ∷ [])) ≡ refused_at 75 (Marker 0xFF93)
@@ -39,10 +40,10 @@ pub another_length_of_sot : head_of (slice_set small_header 78 0x0B) ≡ refused
 unfolding siz_tests cap_tests cod_tests tile_tests segment_tests skipped_tests sum_below read_tile read_main head_of
 another_length_of_sot = refl
 
--- SIZ: five components,
-pub five_components : head_of (slice_set small_header 41 0x05) ≡ refused_at 2 Components
+-- SIZ: seventeen components,
+pub seventeen_components : head_of (slice_set small_header 41 0x11) ≡ refused_at 2 Components
 unfolding siz_tests cap_tests cod_tests tile_tests segment_tests skipped_tests sum_below read_tile read_main head_of
-five_components = refl
+seventeen_components = refl
 
 -- a length for fewer components,
 pub two_components_in_the_length_of_one : head_of (slice_set small_header 41 0x02) ≡ refused_at 2 Length

@@ -13,7 +13,7 @@ use Rattle.codestream_model.specs.GeometryLaws.{HasSteps}
 use Rattle.codestream_model.specs.Packet.{Content, SpellsPacket}
 use Rattle.codestream_model.specs.Codestream.{SpellsCodestream, IsPsotRight, WalkRefusal, Cut, HeaderRefused, Psot, NoEoc, BeginsCodestream, RefusesCodestream, NeedsCodestreamBytes, Faults, IsInput}
 use Rattle.codestream_model.proofs.Headers.{small_header}
-use Rattle.codestream_model.proofs.WorkedHeaders.{plain_head}
+use Rattle.codestream_model.proofs.WorkedGeometry.{plain_head}
 use Rattle.codestream_model.proofs.WorkedRelations.{bytes_if_tested, spells_if_read, small_header_spells}
 use Rattle.codestream_model.proofs.WorkedRefusals.{four_passes_are_refused, a_short_cleanup_is_refused}
 use Rattle.codestream_model.proofs.WorkedPackets.{precinct}
@@ -75,7 +75,14 @@ nothing = record { blocks = []; bytes = [] }
 
 -- is one of the precinct
 empty : (psot : ℕ) → SpellsPacket (small_head psot) (precinct 0) nothing (0 ∷ [])
-empty psot = record { header = 0 ∷ []; few_blocks = omega arith; is_header = (empty_packet (grids (small_head psot) (precinct 0)) 0 [] (omega arith)).1; segments = refl; whole = refl; short = omega arith }
+empty psot = record {
+  header = 0 ∷ [];
+  few_blocks = omega arith;
+  is_header = record { header = 0 ∷ []; is_header = (empty_packet (grids (small_head psot) (precinct 0)) 0 [] (omega arith)).1; whole = refl };
+  segments = refl;
+  whole = refl;
+  short = omega arith;
+}
 
 -- behind it EOC should stand
 packed : (psot : ℕ) (head rest : List ℕ) → SpellsHead (small_head psot) head → BeginsCodestream (small_head psot) [] (length head + 1) rest (head ++ 0 ∷ rest)

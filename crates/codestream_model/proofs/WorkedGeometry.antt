@@ -1,5 +1,5 @@
 -- Areas, precincts, grids and the packet order of two images, computed.
-use Rattle.std.specs.Prelude.{◌≡◌, ◌==◌, ℕ, false, List, [], ◌∷◌, map}
+use Rattle.std.specs.Prelude.{◌≡◌, ◌==◌, ℕ, true, false, List, [], ◌∷◌, map}
 use Rattle.std.specs.List.{list_any}
 use Rattle.std.proofs.Common.{refl}
 use Rattle.codestream_model.specs.Values.{Head, Place, Grid}
@@ -18,6 +18,8 @@ two_components = record {
   levels = 1;
   block = record { x = 6; y = 6 };
   precincts = record { x = 3; y = 3 } ∷ record { x = 3; y = 3 } ∷ [];
+  order = 3;
+  eph = false;
   psot = 0;
   sot = 83;
   length = 97;
@@ -34,26 +36,46 @@ odd_sample = record {
   levels = 1;
   block = record { x = 6; y = 6 };
   precincts = record { x = 15; y = 15 } ∷ record { x = 15; y = 15 } ∷ [];
+  order = 3;
+  eph = false;
   psot = 0;
   sot = 78;
   length = 92;
 }
 
--- an image of three samples side by side, in precincts of one sample
-unfoldable pub three_samples : Head
-three_samples = record {
-  x0 = 0;
+-- The same in RPCL order.
+abbrev pub two_components_by_resolution : Head
+two_components_by_resolution = record two_components { order = 2 }
+
+-- The values of a header of one component with N_L 0, code-blocks of 64 by 64, PCRL order, no EPH and Psot 0.
+abbrev pub plain_head : ℕ → ℕ → ℕ → ℕ → ℕ → ℕ → Head
+plain_head x0 x1 y1 exponent sot n = record {
+  x0 = x0;
   y0 = 0;
-  x1 = 3;
-  y1 = 1;
+  x1 = x1;
+  y1 = y1;
   steps = record { x = 1; y = 1 } ∷ [];
   levels = 0;
   block = record { x = 6; y = 6 };
-  precincts = record { x = 0; y = 0 } ∷ [];
+  precincts = record { x = exponent; y = exponent } ∷ [];
+  order = 3;
+  eph = false;
   psot = 0;
-  sot = 76;
-  length = 90;
+  sot = sot;
+  length = n;
 }
+
+-- An image of one sample.
+abbrev pub one_sample : Head
+one_sample = plain_head 0 1 1 15 75 89
+
+-- An image of one sample with EPH after each packet header.
+abbrev pub one_sample_with_eph : Head
+one_sample_with_eph = record one_sample { eph = true }
+
+-- An image of three samples side by side, in precincts of one sample.
+abbrev pub three_samples : Head
+three_samples = plain_head 0 3 1 0 76 90
 
 -- an area by its four bounds
 abbrev pub area : ℕ → ℕ → ℕ → ℕ → Area
@@ -117,6 +139,12 @@ pub packets : map (line two_components) (packet_order two_components) ≡
     ∷ []
 unfolding two_components sum_below placed sorted
 packets = refl
+
+-- The thirteen packets in RPCL order.
+pub packets_by_resolution : map (pid two_components_by_resolution) (packet_order two_components_by_resolution) ≡
+    0 ∷ 1 ∷ 2 ∷ 4 ∷ 3 ∷ 6 ∷ 8 ∷ 5 ∷ 10 ∷ 7 ∷ 12 ∷ 14 ∷ 9 ∷ []
+unfolding two_components sum_below placed sorted
+packets_by_resolution = refl
 
 -- the fourteenth number is that of component 0, resolution 1, the last precinct there,
 pub pid_14 : pid two_components (place 0 1 5) ≡ 14
@@ -185,10 +213,10 @@ grids_of_odd_sample = refl
 
 -- three precincts side by side, one code-block in each
 pub packets_of_three : map (line three_samples) (packet_order three_samples) ≡ (0 ∷ 0 ∷ 0 ∷ 0 ∷ 0 ∷ 0 ∷ []) ∷ (1 ∷ 0 ∷ 0 ∷ 1 ∷ 0 ∷ 1 ∷ []) ∷ (2 ∷ 0 ∷ 0 ∷ 2 ∷ 0 ∷ 2 ∷ []) ∷ []
-unfolding three_samples sum_below placed sorted
+unfolding sum_below placed sorted
 packets_of_three = refl
 
 -- one code-block in each
 pub grids_of_three : map (grids three_samples) (packet_order three_samples) ≡ (grid_of 0 1 1 ∷ []) ∷ (grid_of 0 1 1 ∷ []) ∷ (grid_of 0 1 1 ∷ []) ∷ []
-unfolding three_samples placed sorted
+unfolding placed sorted
 grids_of_three = refl

@@ -3,32 +3,16 @@ use Rattle.std.specs.Prelude.{◌≡◌, ℕ, [], ◌∷◌, ◌++◌, take, sli
 use Rattle.std.proofs.Common.{refl}
 use Rattle.codestream_model.specs.Values.{Head}
 use Rattle.codestream_model.specs.PacketOrder.{sum_below}
-use Rattle.codestream_model.specs.HeadRefusals.{HeadRefusal, Cut, NoSoc, NoSiz, Marker, Length, Twice, Missing, Components, Step, Area, Cap, Order, Levels, Quant, Sop, Eph, TileHeader, Ids, TooLong}
+use Rattle.codestream_model.specs.HeadRefusals.{HeadRefusal, Cut, NoSoc, NoSiz, Marker, Length, Twice, Missing, Components, Step, Area, Cap, Order, Levels, Quant, Sop, TileHeader, Ids, TooLong}
 use Rattle.codestream_model.specs.SegmentTests.{siz_tests, cap_tests, cod_tests, tile_tests}
 use Rattle.codestream_model.specs.RefusedHeader.{segment_tests, skipped_tests}
 use Rattle.codestream_model.specs.MainHeaderReading.{Refused, read_tile, read_main, head_of}
 use Rattle.codestream_model.proofs.Headers.{header, small_siz, small_cap, small_cod, small_qcd, small_sot, small_header, three_cod, header_of_three, packet_lengths, tile_lengths, header_with_more, header_of_two_components, header_of_odd_sample, many_siz, too_many_siz, far_tile_siz, no_step_siz, empty_siz, other_cap, short_cap}
-use Rattle.codestream_model.proofs.WorkedGeometry.{two_components, odd_sample}
+use Rattle.codestream_model.proofs.WorkedGeometry.{two_components, odd_sample, plain_head, one_sample_with_eph, two_components_by_resolution}
 
 -- a refusal with its place
 abbrev pub refused_at : ℕ → HeadRefusal → Result Head Refused
 refused_at at why = Err (record { at = at; why = why })
-
--- the values of a header of one component with N_L 0, code-blocks of 64 by 64 and Psot 0
-abbrev pub plain_head : ℕ → ℕ → ℕ → ℕ → ℕ → ℕ → Head
-plain_head x0 x1 y1 exponent sot n = record {
-  x0 = x0;
-  y0 = 0;
-  x1 = x1;
-  y1 = y1;
-  steps = record { x = 1; y = 1 } ∷ [];
-  levels = 0;
-  block = record { x = 6; y = 6 };
-  precincts = record { x = exponent; y = exponent } ∷ [];
-  psot = 0;
-  sot = sot;
-  length = n;
-}
 
 -- the small header has these values,
 pub small_header_is_read : head_of small_header ≡ Ok (plain_head 0 1 1 15 75 89)
@@ -64,6 +48,16 @@ header_of_two_components_is_read = refl
 pub header_of_odd_sample_is_read : head_of header_of_odd_sample ≡ Ok odd_sample
 unfolding siz_tests cap_tests cod_tests tile_tests segment_tests skipped_tests sum_below read_tile read_main head_of odd_sample
 header_of_odd_sample_is_read = refl
+
+-- EPH is read from the style,
+pub header_with_eph_is_read : head_of (slice_set small_header 59 0x04) ≡ Ok one_sample_with_eph
+unfolding siz_tests cap_tests cod_tests tile_tests segment_tests skipped_tests sum_below read_tile read_main head_of
+header_with_eph_is_read = refl
+
+-- and RPCL from the order.
+pub header_by_resolution_is_read : head_of (slice_set header_of_two_components 63 0x02) ≡ Ok two_components_by_resolution
+unfolding siz_tests cap_tests cod_tests tile_tests segment_tests skipped_tests sum_below read_tile read_main head_of two_components
+header_by_resolution_is_read = refl
 
 -- TNsot 0 is accepted,
 pub unknown_number_of_tile_parts : head_of (slice_set small_header 86 0x00) ≡ Ok (plain_head 0 1 1 15 75 89)
@@ -175,13 +169,8 @@ pub sop : head_of (slice_set small_header 59 0x02) ≡ refused_at 55 Sop
 unfolding siz_tests cap_tests cod_tests tile_tests segment_tests skipped_tests sum_below read_tile read_main head_of
 sop = refl
 
--- EPH,
-pub eph : head_of (slice_set small_header 59 0x04) ≡ refused_at 55 Eph
-unfolding siz_tests cap_tests cod_tests tile_tests segment_tests skipped_tests sum_below read_tile read_main head_of
-eph = refl
-
--- another order,
-pub another_order : head_of (slice_set small_header 60 0x02) ≡ refused_at 55 Order
+-- another order than RPCL and PCRL,
+pub another_order : head_of (slice_set small_header 60 0x01) ≡ refused_at 55 Order
 unfolding siz_tests cap_tests cod_tests tile_tests segment_tests skipped_tests sum_below read_tile read_main head_of
 another_order = refl
 

@@ -1,50 +1,20 @@
 -- Packets byte by byte: those of a codestream of one sample and of one of three samples in precincts of their own.
-use Rattle.std.proofs.Common.{◌≡◌, ◌<◌, ℕ, true, false, List, [], ◌∷◌, ◌++◌, replicate, refl, sym, subst, inl, inr, arith}
+use Rattle.std.proofs.Common.{◌≡◌, ◌<◌, ◌≤◌, ℕ, Bool, true, false, List, [], ◌∷◌, ◌++◌, replicate, refl, sym, subst, inl, inr, arith}
 use Rattle.codestream_model.specs.Values.{Head, Place, Grid}
 use Rattle.codestream_model.specs.Bytes.{IsBytes}
 use Rattle.codestream_model.specs.StuffedBits.{IsStuffed, Packs, number_bits, carried_after}
 use Rattle.codestream_model.specs.TagTrees.{halvings, levels_from}
 use Rattle.codestream_model.specs.PacketHeader.{SpellsHeader}
-use Rattle.codestream_model.specs.Packet.{HasFewBlocks, SpellsPacket}
+use Rattle.codestream_model.specs.MarkedHeader.{end_marker}
+use Rattle.codestream_model.specs.Packet.{block_count, SpellsPacket}
 use Rattle.codestream_model.specs.Codestream.{SpellsCodestream}
 use Rattle.codestream_model.specs.MainHeader.{SpellsHead}
 use Rattle.codestream_model.specs.Precincts.{grids}
 use Rattle.codestream_model.specs.PacketOrder.{IsPacketOrder}
+use Rattle.codestream_model.proofs.WorkedGeometry.{one_sample, three_samples}
 use Rattle.codestream_model.proofs.WorkedPacketHeaders.{one_grid, block}
 use Rattle.codestream_model.proofs.PackingLemmas.{bytes-cons, bytes-nil, stuffed-cons, stuffed-nil}
 use Rattle.codestream_model.proofs.OneBlock.{one_block}
-
--- the values of the header of an image of one sample
-abbrev pub head_of_one : Head
-head_of_one = record {
-  x0 = 0;
-  y0 = 0;
-  x1 = 1;
-  y1 = 1;
-  steps = record { x = 1; y = 1 } ∷ [];
-  levels = 0;
-  block = record { x = 6; y = 6 };
-  precincts = record { x = 15; y = 15 } ∷ [];
-  psot = 0;
-  sot = 75;
-  length = 89;
-}
-
--- and of three samples side by side, in precincts of one sample each
-abbrev pub head_of_three : Head
-head_of_three = record {
-  x0 = 0;
-  y0 = 0;
-  x1 = 3;
-  y1 = 1;
-  steps = record { x = 1; y = 1 } ∷ [];
-  levels = 0;
-  block = record { x = 6; y = 6 };
-  precincts = record { x = 0; y = 0 } ∷ [];
-  psot = 0;
-  sot = 76;
-  length = 90;
-}
 
 -- the precinct of this number of the lowest resolution
 abbrev pub precinct : ℕ → Place
@@ -88,11 +58,11 @@ header_of_one_block = record {
 }
 
 -- the packet of one sample: C8 80, and the bytes AA BB
-pub packet_of_one : SpellsPacket head_of_one (precinct 0) (record { blocks = block 2 1 2 0 ∷ []; bytes = 170 ∷ 187 ∷ [] }) (200 ∷ 128 ∷ 170 ∷ 187 ∷ [])
+pub packet_of_one : SpellsPacket one_sample (precinct 0) (record { blocks = block 2 1 2 0 ∷ []; bytes = 170 ∷ 187 ∷ [] }) (200 ∷ 128 ∷ 170 ∷ 187 ∷ [])
 packet_of_one = record {
   header = 200 ∷ 128 ∷ [];
   few_blocks = omega arith;
-  is_header = header_of_one_block;
+  is_header = record { header = 200 ∷ 128 ∷ []; is_header = header_of_one_block; whole = refl };
   segments = refl;
   whole = refl;
   short = omega arith;
@@ -129,33 +99,37 @@ header_of_long_block = record {
 }
 
 -- a packet of a precinct of one code-block: EF 64, and a hundred bytes that are all the same
-long_packet : (h : Head) (p : Place) (byte : ℕ) → grids h p ≡ one_grid → SpellsPacket h p (record { blocks = block 0 1 100 0 ∷ []; bytes = replicate 100 byte }) (239 ∷ 100 ∷ replicate 100 byte)
-long_packet h p byte e = record {
+long_packet : (h : Head) (p : Place) (byte : ℕ) → h.eph ≡ false → grids h p ≡ one_grid → SpellsPacket h p (record { blocks = block 0 1 100 0 ∷ []; bytes = replicate 100 byte }) (239 ∷ 100 ∷ replicate 100 byte)
+long_packet h p byte no_eph e = record {
   header = 239 ∷ 100 ∷ [];
-  few_blocks = let P : List Grid → Type 0 = λ gs. HasFewBlocks gs in subst P (sym e) (omega arith);
-  is_header = let P : List Grid → Type 0 = λ gs. SpellsHeader gs (block 0 1 100 0 ∷ []) (239 ∷ 100 ∷ []) in subst P (sym e) header_of_long_block;
+  few_blocks = let P : List Grid → Type 0 = λ gs. block_count gs ≤ 65536 in subst P (sym e) (omega arith);
+  is_header = record {
+    header = 239 ∷ 100 ∷ [];
+    is_header = let P : List Grid → Type 0 = λ gs. SpellsHeader gs (block 0 1 100 0 ∷ []) (239 ∷ 100 ∷ []) in subst P (sym e) header_of_long_block;
+    whole = let P : Bool → Type 0 = λ b. 239 ∷ 100 ∷ [] ≡ (239 ∷ 100 ∷ []) ++ end_marker b in subst P (sym no_eph) refl;
+  };
   segments = refl;
   whole = refl;
   short = omega arith;
 }
 
 -- the packets of three samples, of bytes 11, 22 and 33
-pub first_packet_of_three : SpellsPacket head_of_three (precinct 0) (record { blocks = block 0 1 100 0 ∷ []; bytes = replicate 100 17 }) (239 ∷ 100 ∷ replicate 100 17)
-first_packet_of_three = long_packet head_of_three (precinct 0) 17 refl
+pub first_packet_of_three : SpellsPacket three_samples (precinct 0) (record { blocks = block 0 1 100 0 ∷ []; bytes = replicate 100 17 }) (239 ∷ 100 ∷ replicate 100 17)
+first_packet_of_three = long_packet three_samples (precinct 0) 17 refl refl
 
-pub second_packet_of_three : SpellsPacket head_of_three (precinct 1) (record { blocks = block 0 1 100 0 ∷ []; bytes = replicate 100 34 }) (239 ∷ 100 ∷ replicate 100 34)
-second_packet_of_three = long_packet head_of_three (precinct 1) 34 refl
+pub second_packet_of_three : SpellsPacket three_samples (precinct 1) (record { blocks = block 0 1 100 0 ∷ []; bytes = replicate 100 34 }) (239 ∷ 100 ∷ replicate 100 34)
+second_packet_of_three = long_packet three_samples (precinct 1) 34 refl refl
 
-pub third_packet_of_three : SpellsPacket head_of_three (precinct 2) (record { blocks = block 0 1 100 0 ∷ []; bytes = replicate 100 51 }) (239 ∷ 100 ∷ replicate 100 51)
-third_packet_of_three = long_packet head_of_three (precinct 2) 51 refl
+pub third_packet_of_three : SpellsPacket three_samples (precinct 2) (record { blocks = block 0 1 100 0 ∷ []; bytes = replicate 100 51 }) (239 ∷ 100 ∷ replicate 100 51)
+third_packet_of_three = long_packet three_samples (precinct 2) 51 refl refl
 
 -- these packets one after another
 abbrev pub three_packets : List ℕ
 three_packets = (239 ∷ 100 ∷ replicate 100 17) ++ ((239 ∷ 100 ∷ replicate 100 34) ++ ((239 ∷ 100 ∷ replicate 100 51) ++ []))
 
 -- the codestream of three samples: its header, the three packets and EOC, if that is its header and these are its precincts
-pub codestream_of_three : (head : List ℕ) → SpellsHead head_of_three head → IsPacketOrder head_of_three (precinct 0 ∷ precinct 1 ∷ precinct 2 ∷ [])
-    → SpellsCodestream head_of_three
+pub codestream_of_three : (head : List ℕ) → SpellsHead three_samples head → IsPacketOrder three_samples (precinct 0 ∷ precinct 1 ∷ precinct 2 ∷ [])
+    → SpellsCodestream three_samples
     (record { blocks = block 0 1 100 0 ∷ []; bytes = replicate 100 17 } ∷ record { blocks = block 0 1 100 0 ∷ []; bytes = replicate 100 34 } ∷ record { blocks = block 0 1 100 0 ∷ []; bytes = replicate 100 51 } ∷ [])
     (head ++ (three_packets ++ 255 ∷ 217 ∷ []))
 codestream_of_three head is order = record {

@@ -13,8 +13,8 @@ use Rattle.codestream_model.specs.RefusedHeader.{RefusesHead}
 use Rattle.codestream_model.specs.MainHeaderReading.{Refused, head_of}
 use Rattle.codestream_model.specs.GeometryLaws.{HasSteps}
 use Rattle.codestream_model.proofs.Headers.{small_header, header_of_three, header_of_two_components}
-use Rattle.codestream_model.proofs.WorkedGeometry.{two_components, pid_11}
-use Rattle.codestream_model.proofs.WorkedHeaders.{plain_head, small_header_is_read, header_of_three_is_read, header_of_two_components_is_read, sop}
+use Rattle.codestream_model.proofs.WorkedGeometry.{two_components, plain_head, pid_11}
+use Rattle.codestream_model.proofs.WorkedHeaders.{small_header_is_read, header_of_three_is_read, header_of_two_components_is_read, sop}
 use Rattle.codestream_model.proofs.Members.{Has, has_contained}
 use Rattle.codestream_model.proofs.Numbers.{has_any}
 use Rattle.codestream_model.proofs.Orders.{packet_order_is_computed}

@@ -1,15 +1,14 @@
 -- A codestream of the profile, and the first fault of an input of codestreams (T.800 Annexes A and B).
 use Rattle.std.specs.Prelude.{◌≡◌, ◌≢◌, ◌<◌, ◌≤◌, ◌⊎◌, ◌+◌, ◌-◌, ◌^◌, ◌++◌, ℕ, List, [], ◌∷◌, length, take}
 use Rattle.std.specs.List.{AllByRecursion, flat_map}
-use Rattle.codestream_model.specs.Values.{Head, Place, Grid}
+use Rattle.codestream_model.specs.Values.{Head, Place}
 use Rattle.codestream_model.specs.HeadRefusals.{HeadRefusal, Cut as HeadCut}
 use Rattle.codestream_model.specs.MainHeader.{SpellsHead}
 use Rattle.codestream_model.specs.RefusedHeader.{RefusesHead}
 use Rattle.codestream_model.specs.Precincts.{grids}
 use Rattle.codestream_model.specs.PacketOrder.{IsPacketOrder}
 use Rattle.codestream_model.specs.HeaderPieces.{HeaderRefusal}
-use Rattle.codestream_model.specs.PacketHeader.{RefusesHeader}
-use Rattle.codestream_model.specs.Packet.{Content, HasFewBlocks, block_count, SpellsPacket, IsPacketTooLong, NeedsPacketBytes}
+use Rattle.codestream_model.specs.Packet.{Content, HasFewBlocks, block_count, RefusesPacketHeader, SpellsPacket, IsPacketTooLong, NeedsPacketBytes}
 
 -- the bytes are the packets of these places that say this, one after another
 abbrev pub SpellsPackets : Head → List Place → List Content → List ℕ → Type 0
@@ -66,18 +65,18 @@ pub record BeginsCodestream (h : Head) (later : List Place) (at : ℕ) (rest byt
   pub place : at ≡ length head + length packets
   pub whole : bytes ≡ head ++ (packets ++ rest)
 
--- Bytes that should begin with a packet over these grids are refused: for the number of its code-blocks, for its header, or for
--- its length. The other reasons are not about packets.
-abbrev pub RefusesPacket : List Grid → List ℕ → WalkRefusal → Type 0
-RefusesPacket gs bytes TooManyBlocks = 65536 < block_count gs
-RefusesPacket gs bytes (HeaderRefused why) = HasFewBlocks gs × RefusesHeader gs bytes why
-RefusesPacket gs bytes PacketTooLong = IsPacketTooLong gs bytes
-RefusesPacket gs bytes (HeadRefused why) = ⊥
-RefusesPacket gs bytes Cut = ⊥
-RefusesPacket gs bytes Psot = ⊥
-RefusesPacket gs bytes NoEoc = ⊥
-RefusesPacket gs bytes InputTooLong = ⊥
-RefusesPacket gs bytes TooManyFrames = ⊥
+-- Bytes that should begin with the packet of a precinct are refused: for the number of its code-blocks, for its header or a missing
+-- EPH, or for its length. The other reasons are not about packets.
+abbrev pub RefusesPacket : Head → Place → List ℕ → WalkRefusal → Type 0
+RefusesPacket h p bytes TooManyBlocks = 65536 < block_count (grids h p)
+RefusesPacket h p bytes (HeaderRefused why) = HasFewBlocks h p × RefusesPacketHeader h p bytes why
+RefusesPacket h p bytes PacketTooLong = IsPacketTooLong h p bytes
+RefusesPacket h p bytes (HeadRefused why) = ⊥
+RefusesPacket h p bytes Cut = ⊥
+RefusesPacket h p bytes Psot = ⊥
+RefusesPacket h p bytes NoEoc = ⊥
+RefusesPacket h p bytes InputTooLong = ⊥
+RefusesPacket h p bytes TooManyFrames = ⊥
 
 -- The bytes begin with two bytes other than those of EOC.
 abbrev pub IsOther : List ℕ → Type 0
@@ -104,12 +103,12 @@ NeedsEocBytes h at bytes = IsPsotRight h at × (length bytes < 2)
 -- be, or, where none remains, EOC.
 abbrev pub RefusesNext : Head → List Place → ℕ → List ℕ → WalkRefusal → Type 0
 RefusesNext h [] at rest why = RefusesEoc h at rest why
-RefusesNext h (p ∷ later) at rest why = RefusesPacket (grids h p) rest why
+RefusesNext h (p ∷ later) at rest why = RefusesPacket h p rest why
 
 -- After a main header and packets the bytes end before the next packet, or EOC, is whole, and nothing refuses them.
 abbrev pub NeedsNextBytes : Head → List Place → ℕ → List ℕ → Type 0
 NeedsNextBytes h [] at rest = NeedsEocBytes h at rest
-NeedsNextBytes h (p ∷ later) at rest = NeedsPacketBytes (grids h p) rest
+NeedsNextBytes h (p ∷ later) at rest = NeedsPacketBytes h p rest
 
 -- a packet should begin at this place of the bytes, and this holds of its header, its precinct and what stands there
 abbrev pub HoldsAtPacket : List ℕ → ℕ → (Head → Place → List ℕ → Type 0) → Type 0
@@ -123,9 +122,9 @@ HoldsAtEoc bytes at Holds = (h : Head) × (rest : List ℕ) × BeginsCodestream 
 -- header; a packet; EOC. The other causes speak of where bytes end.
 abbrev pub RefusesCodestream : List ℕ → ℕ → WalkRefusal → Type 0
 RefusesCodestream bytes at (HeadRefused why) = RefusesHead bytes at why × (why ≢ HeadCut)
-RefusesCodestream bytes at TooManyBlocks = HoldsAtPacket bytes at (λ h p rest. RefusesPacket (grids h p) rest TooManyBlocks)
-RefusesCodestream bytes at (HeaderRefused why) = HoldsAtPacket bytes at (λ h p rest. RefusesPacket (grids h p) rest (HeaderRefused why))
-RefusesCodestream bytes at PacketTooLong = HoldsAtPacket bytes at (λ h p rest. RefusesPacket (grids h p) rest PacketTooLong)
+RefusesCodestream bytes at TooManyBlocks = HoldsAtPacket bytes at (λ h p rest. RefusesPacket h p rest TooManyBlocks)
+RefusesCodestream bytes at (HeaderRefused why) = HoldsAtPacket bytes at (λ h p rest. RefusesPacket h p rest (HeaderRefused why))
+RefusesCodestream bytes at PacketTooLong = HoldsAtPacket bytes at (λ h p rest. RefusesPacket h p rest PacketTooLong)
 RefusesCodestream bytes at Psot = HoldsAtEoc bytes at (λ h rest. RefusesEoc h at rest Psot)
 RefusesCodestream bytes at NoEoc = HoldsAtEoc bytes at (λ h rest. RefusesEoc h at rest NoEoc)
 RefusesCodestream bytes at Cut = ⊥
@@ -136,19 +135,29 @@ RefusesCodestream bytes at TooManyFrames = ⊥
 abbrev pub NeedsCodestreamBytes : List ℕ → Type 0
 NeedsCodestreamBytes bytes =
     (at : ℕ) × (RefusesHead bytes at HeadCut
-    ⊎ (HoldsAtPacket bytes at (λ h p rest. NeedsPacketBytes (grids h p) rest)
+    ⊎ (HoldsAtPacket bytes at (λ h p rest. NeedsPacketBytes h p rest)
     ⊎ HoldsAtEoc bytes at (λ h rest. NeedsEocBytes h at rest)))
 
 -- the bytes that are read of an input, behind so many of it: none past 1,099,511,627,776
 abbrev pub readable : ℕ → List ℕ → List ℕ
 readable done rest = take (2 ^ 40 - done) rest
 
+-- An item of the codestream that should follow `done` bytes is refused, at this place of the input.
+abbrev pub RefusesInside : ℕ → List ℕ → ℕ → WalkRefusal → Type 0
+RefusesInside done rest at why = (inside : ℕ) × RefusesCodestream (readable done rest) inside why × (at ≡ done + inside)
+
 -- What is refused of the bytes behind whole codestreams that take so many bytes: an item that isn't as it should be, or one
 -- that wants a byte behind the last that is read, which is the input's end or a place that an input may not reach.
 abbrev pub RefusesRest : ℕ → List ℕ → ℕ → WalkRefusal → Type 0
 RefusesRest done rest at Cut = NeedsCodestreamBytes rest × (done + length rest ≤ 2 ^ 40) × (at ≡ done + length rest)
 RefusesRest done rest at InputTooLong = NeedsCodestreamBytes (readable done rest) × (2 ^ 40 < done + length rest) × (at ≡ 2 ^ 40)
-RefusesRest done rest at why = (inside : ℕ) × RefusesCodestream (readable done rest) inside why × (at ≡ done + inside)
+RefusesRest done rest at (HeadRefused why) = RefusesInside done rest at (HeadRefused why)
+RefusesRest done rest at TooManyBlocks = RefusesInside done rest at TooManyBlocks
+RefusesRest done rest at (HeaderRefused why) = RefusesInside done rest at (HeaderRefused why)
+RefusesRest done rest at PacketTooLong = RefusesInside done rest at PacketTooLong
+RefusesRest done rest at Psot = RefusesInside done rest at Psot
+RefusesRest done rest at NoEoc = RefusesInside done rest at NoEoc
+RefusesRest done rest at TooManyFrames = RefusesInside done rest at TooManyFrames
 
 -- The first fault of an input: a byte behind 65,536 whole codestreams, or what is refused behind fewer.
 pub record Faults (input : List ℕ) (at : ℕ) (why : WalkRefusal) : Type 0 where

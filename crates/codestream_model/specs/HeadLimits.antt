@@ -1,5 +1,5 @@
 -- The limits within which the values of each accepted main header lie.
-use Rattle.std.specs.Prelude.{◌≡◌, ◌<◌, ◌≤◌, ◌+◌, ◌^◌, length, drop}
+use Rattle.std.specs.Prelude.{◌≡◌, ◌<◌, ◌≤◌, ◌⊎◌, ◌+◌, ◌^◌, length, drop}
 use Rattle.std.specs.List.{All}
 use Rattle.codestream_model.specs.Values.{Pair, Head, Place}
 use Rattle.codestream_model.specs.Areas.{ceil_div}
@@ -18,11 +18,11 @@ pub record HasSamples (h : Head) (step : Pair) : Type 0 where
   pub wide : ceil_div h.x0 step.x < ceil_div h.x1 step.x
   pub high : ceil_div h.y0 step.y < ceil_div h.y1 step.y
 
--- one to four components, an image within 2^31 - 1, at most 15 levels, code-blocks of 4 to 1024 by 4 to 1024 and of at most
--- 4096 samples, precincts of at most 2^15 samples each way, and PIDs below 2^20
+-- one to sixteen components, an image within 2^31 - 1, at most 15 levels, code-blocks of 4 to 1024 by 4 to 1024 and of at most
+-- 4096 samples, precincts of at most 2^15 samples each way, RPCL or PCRL order, and PIDs below 2^20
 pub record IsWithinLimits (h : Head) : Type 0 where
   pub some_component : 1 ≤ length h.steps
-  pub few_components : length h.steps ≤ 4
+  pub few_components : length h.steps ≤ 16
   pub each_step : All IsStep h.steps
   pub each_component : All (HasSamples h) h.steps
   pub wide : h.x0 < h.x1
@@ -36,6 +36,7 @@ pub record IsWithinLimits (h : Head) : Type 0 where
   pub each_resolution : length h.precincts ≡ h.levels + 1
   pub most_precinct : All (λ e. (e.x ≤ 15) × (e.y ≤ 15)) h.precincts
   pub least_precinct : All (λ e. (1 ≤ e.x) × (1 ≤ e.y)) (drop 1 h.precincts)
+  pub known_order : (h.order ≡ 2) ⊎ (h.order ≡ 3)
   pub few_pids : (p : Place) → IsPrecinct h p → pid h p < 2 ^ 20
   pub psot_fits : h.psot < 2 ^ 32
   pub tile_fits : 2 ≤ h.sot

@@ -25,7 +25,6 @@ pub data HeadRefusal : Type 0 where
   Precinct : HeadRefusal
   Quant : HeadRefusal
   Sop : HeadRefusal
-  Eph : HeadRefusal
   TileHeader : HeadRefusal
   Ids : HeadRefusal
   TooLong : HeadRefusal

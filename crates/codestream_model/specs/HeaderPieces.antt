@@ -5,7 +5,7 @@ use Rattle.codestream_model.specs.Values.{Grid, Block}
 use Rattle.codestream_model.specs.StuffedBits.{number_bits}
 use Rattle.codestream_model.specs.TagTrees.{Seat, Labels, Step, seats, seat_of, inclusion_bits, value_steps}
 
--- why a packet header is refused
+-- why a packet header, or what follows it, is refused
 pub data HeaderRefusal : Type 0 where
   Stuffed : HeaderRefusal
   ZeroPlanes : HeaderRefusal
@@ -15,6 +15,7 @@ pub data HeaderRefusal : Type 0 where
   CleanupLong : HeaderRefusal
   RefineLong : HeaderRefusal
   TooLong : HeaderRefusal
+  NoEph : HeaderRefusal
 
 -- A piece of a header: a node's bit of the inclusion tree, a step to a node of the value tree, the number of coding
 -- passes, Lblock, and the lengths of the two segments, each with the number of its bits.

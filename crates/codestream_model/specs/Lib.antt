@@ -2,7 +2,7 @@ pub mod Values
 pub mod Areas
 pub mod Precincts
 pub mod PacketOrder
-pub mod Bytes
+pub use Rattle.bytes_model.specs.Bytes
 pub mod Segments
 pub mod HeadRefusals
 pub mod SegmentTests
@@ -17,7 +17,9 @@ pub mod TagTrees
 pub mod HeaderPieces
 pub mod PacketHeader
 pub mod PacketHeaderReading
+pub mod MarkedHeader
 pub mod Packet
 pub mod Codestream
 pub mod PacketLaws
+pub mod MarkedLaws
 pub mod CodestreamLaws

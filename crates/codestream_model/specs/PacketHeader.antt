@@ -5,7 +5,7 @@ use Rattle.codestream_model.specs.Values.{Grid, Block}
 use Rattle.codestream_model.specs.Bytes.{IsBytes}
 use Rattle.codestream_model.specs.StuffedBits.{IsStuffed, Packs, carried, packing}
 use Rattle.codestream_model.specs.TagTrees.{Seat, IsSeat, Labels, seats, label, NeverFalls, seat_of, exponent, least_inclusion, least_planes}
-use Rattle.codestream_model.specs.HeaderPieces.{HeaderRefusal, Stuffed, TooLong, Piece, IsSound, fault_of, deciding_bits, bits_of, Choices, refine_width, stands_at, header_pieces}
+use Rattle.codestream_model.specs.HeaderPieces.{HeaderRefusal, Stuffed, ZeroPlanes, Passes, LengthBits, CleanupShort, CleanupLong, RefineLong, TooLong, NoEph, Piece, IsSound, fault_of, deciding_bits, bits_of, Choices, refine_width, stands_at, header_pieces}
 
 -- no two grids are of one band
 abbrev pub HaveOwnBands : List Grid → Type 0
@@ -158,11 +158,18 @@ pub record IsRefusedPiece (grids : List Grid) (bytes : List ℕ) (why : HeaderRe
   pub stuffed : IsStuffed front
   pub fault : HasFault grids (carried front) why
 
--- why bytes are no header: each cause has its deciding bit, and all bits before it are a sound front
+-- Why bytes are no header: each cause has its deciding bit, and all bits before it are a sound prefix of a header. EPH is no
+-- part of a header.
 abbrev pub RefusesHeader : List Grid → List ℕ → HeaderRefusal → Type 0
 RefusesHeader grids bytes Stuffed = IsBrokenStuffing grids bytes
+RefusesHeader grids bytes ZeroPlanes = IsRefusedPiece grids bytes ZeroPlanes
+RefusesHeader grids bytes Passes = IsRefusedPiece grids bytes Passes
+RefusesHeader grids bytes LengthBits = IsRefusedPiece grids bytes LengthBits
+RefusesHeader grids bytes CleanupShort = IsRefusedPiece grids bytes CleanupShort
+RefusesHeader grids bytes CleanupLong = IsRefusedPiece grids bytes CleanupLong
+RefusesHeader grids bytes RefineLong = IsRefusedPiece grids bytes RefineLong
 RefusesHeader grids bytes TooLong = IsTooLong grids bytes
-RefusesHeader grids bytes why = IsRefusedPiece grids bytes why
+RefusesHeader grids bytes NoEph = ⊥
 
 -- the bytes end before a header does, and before it is refused
 pub record NeedsHeaderBytes (grids : List Grid) (bytes : List ℕ) : Type 0 where

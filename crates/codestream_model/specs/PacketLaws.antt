@@ -1,6 +1,5 @@
 -- What is promised of the definitions of packets and of their headers.
 use Rattle.std.specs.Prelude.{◌≡◌, ◌<◌, ◌≤◌, ◌^◌, ◌⊎◌, ◌++◌, ℕ, Bool, List, [], ◌∷◌, length, take}
-use Rattle.std.specs.List.{AllByRecursion}
 use Rattle.codestream_model.specs.Values.{Head, Place, Grid, Block}
 use Rattle.codestream_model.specs.Bytes.{IsBytes}
 use Rattle.codestream_model.specs.StuffedBits.{carried, Packs, packing}
@@ -8,7 +7,6 @@ use Rattle.codestream_model.specs.TagTrees.{exponent}
 use Rattle.codestream_model.specs.HeaderPieces.{HeaderRefusal}
 use Rattle.codestream_model.specs.PacketHeader.{HaveOwnBands, AreBlocks, HeaderBits, SpellsHeader, RefusesHeader, NeedsHeaderBytes, written_bits}
 use Rattle.codestream_model.specs.PacketHeaderReading.{Done, Need, Bad, header_of}
-use Rattle.codestream_model.specs.Precincts.{grids}
 use Rattle.codestream_model.specs.Packet.{Content, SpellsPacket}
 use Rattle.codestream_model.specs.Codestream.{SpellsPackets}
 
@@ -95,13 +93,13 @@ EmptyPacketIsRead = (gs : List Grid) (byte : ℕ) (more : List ℕ) → byte < 1
 -- bytes begin with one packet of a precinct at most, and it says one thing
 abbrev pub PacketsAreReadOneWay : Type 0
 PacketsAreReadOneWay =
-    (h : Head) (p : Place) (x y : Content) (packet other more rest : List ℕ) → HaveOwnBands (grids h p) → SpellsPacket h p x packet → SpellsPacket h p y other
+    (h : Head) (p : Place) (x y : Content) (packet other more rest : List ℕ) → SpellsPacket h p x packet → SpellsPacket h p y other
     → packet ++ more ≡ other ++ rest → (packet ≡ other) × (x ≡ y)
 
 -- and so with the packets of many precincts
 abbrev pub PacketRunsAreReadOneWay : Type 0
 PacketRunsAreReadOneWay =
-    (h : Head) (places : List Place) (content others : List Content) (packets other more rest : List ℕ) → AllByRecursion (λ p. HaveOwnBands (grids h p)) places
+    (h : Head) (places : List Place) (content others : List Content) (packets other more rest : List ℕ)
     → SpellsPackets h places content packets → SpellsPackets h places others other
     → packets ++ more ≡ other ++ rest → (packets ≡ other) × (content ≡ others)
 

@@ -1,4 +1,5 @@
--- The numbers of precincts, and the order of their packets: position, component, resolution (T.800 B.12.1.4).
+-- The numbers of precincts, and the order of their packets: resolution, position, component (T.800 B.12.1.3, RPCL), or
+-- position, component, resolution (B.12.1.4, PCRL).
 use Rattle.std.specs.Prelude.{◌≡◌, ◌<◌, ◌↔◌, ◌⊎◌, ◌+◌, ◌-◌, ◌*◌, ◌^◌, ◌==◌, ◌&&◌, ◌||◌, ℕ, zero, suc, max, Bool, false, List, [], ◌∷◌, map, length, nat_lt, if◌then◌else◌}
 use Rattle.std.specs.List.{Contains, AllPairs, flat_map, range_with_len}
 use Rattle.codestream_model.specs.Values.{Pair, Head, Place}
@@ -25,9 +26,13 @@ anchor h p = record {
   y = max h.y0 (strip_y h p * ((step_of h p.c).y * 2 ^ ((precinct_exponents h p.r).y + (h.levels - p.r))));
 }
 
--- what packets are ordered by: the anchor's y and x, the component, the resolution
+-- what packets are ordered by before all else: in RPCL the resolution, in PCRL nothing
+abbrev pub rank : Head → ℕ → ℕ
+rank h r = if h.order == 2 then r else 0
+
+-- what packets are ordered by: the rank, the anchor's y and x, the component, the resolution
 abbrev pub key : Head → Place → List ℕ
-key h p = (anchor h p).y ∷ (anchor h p).x ∷ p.c ∷ p.r ∷ []
+key h p = rank h p.r ∷ (anchor h p).y ∷ (anchor h p).x ∷ p.c ∷ p.r ∷ []
 
 -- a list of numbers comes before another: it is less at the first place where they differ
 abbrev pub IsBefore : List ℕ → List ℕ → Type 0

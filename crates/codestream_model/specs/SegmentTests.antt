@@ -6,7 +6,7 @@ use Rattle.codestream_model.specs.Areas.{ceil_div}
 use Rattle.codestream_model.specs.PacketOrder.{precincts_below}
 use Rattle.codestream_model.specs.Bytes.{two_at, four_at}
 use Rattle.codestream_model.specs.Segments.{SIZ, COD, QCD, Segment, stated_length, segments_bytes, content_of}
-use Rattle.codestream_model.specs.HeadRefusals.{Test, refuses, Length, Tiles, Components, Step, Area, Rsiz, Cap, Order, Layers, Levels, Blocks, Style, Precinct, Quant, Sop, Eph, TileHeader, Ids}
+use Rattle.codestream_model.specs.HeadRefusals.{Test, refuses, Length, Tiles, Components, Step, Area, Rsiz, Cap, Order, Layers, Levels, Blocks, Style, Precinct, Quant, Sop, TileHeader, Ids}
 
 -- SIZ, image and tile size (A.5.1): Rsiz 16; Xsiz, Ysiz, XOsiz, YOsiz, XTsiz, YTsiz, XTOsiz, YTOsiz 32 each; Csiz 16;
 -- and Ssiz, XRsiz and YRsiz of each component, 8 each
@@ -57,11 +57,15 @@ siz_steps c = map (λ i. record { x = slice_index c (37 + 3 * i); y = slice_inde
 abbrev pub is_empty : List ℕ → Pair → Bool
 is_empty c step = nat_le (ceil_div (xsiz c) step.x) (ceil_div (xosiz c) step.x) || nat_le (ceil_div (ysiz c) step.y) (ceil_div (yosiz c) step.y)
 
--- one to four components, high throughput, one tile over the whole image, and no empty component
+-- The greatest number of components of the profile.
+abbrev pub most_components : ℕ
+most_components = 16
+
+-- one to sixteen components, high throughput, one tile over the whole image, and no empty component
 unfoldable pub siz_tests : List ℕ → List Test
 siz_tests c =
     refuses Components (csiz c == 0)
-    ∷ refuses Components (nat_lt 4 (csiz c))
+    ∷ refuses Components (nat_lt most_components (csiz c))
     ∷ refuses Length (not (stated_length c == 38 + 3 * csiz c))
     ∷ refuses Rsiz (rsiz c / 0x4000 % 2 == 0)
     ∷ refuses Area (nat_le (2 ^ 31) (xsiz c))
@@ -84,6 +88,15 @@ cap_tests c =
     ∷ refuses Length (not (stated_length c == 8))
     ∷ refuses Cap (nat_le 0x2000 (two_at c 4))
     ∷ []
+
+-- The numbers of the two progression orders of the profile (table A.16): resolution, position, component, layer; and position,
+-- component, resolution, layer.
+abbrev pub RPCL : ℕ
+RPCL = 2
+
+-- position, component, resolution, layer
+abbrev pub PCRL : ℕ
+PCRL = 3
 
 -- COD, coding style default (A.6.1): Scod 8; progression order 8; layers 16; component transform 8; N_L 8; xcb - 2 and
 -- ycb - 2, 8 each; code-block style 8; wavelet 8; and with bit 0 of Scod PPx and PPy of each resolution, 4 bits each, PPy first
@@ -114,6 +127,10 @@ cod_style c = slice_index c 8
 abbrev pub has_sizes : List ℕ → Bool
 has_sizes c = scod c % 2 == 1
 
+-- an EPH marker follows each packet header, that of an empty packet too
+abbrev pub has_eph : List ℕ → Bool
+has_eph c = scod c / 4 % 2 == 1
+
 -- PPx and PPy of a resolution; without sizes both are 15
 abbrev pub cod_precinct : List ℕ → ℕ → Pair
 cod_precinct c r = if has_sizes c then record { x = slice_index c (10 + r) % 16; y = slice_index c (10 + r) / 16 } else record { x = 15; y = 15 }
@@ -122,14 +139,13 @@ cod_precinct c r = if has_sizes c then record { x = slice_index c (10 + r) % 16;
 abbrev pub cod_precincts : List ℕ → List Pair
 cod_precincts c = map (cod_precinct c) (range_with_len 0 (cod_levels c + 1))
 
--- neither SOP nor EPH, PCRL order, one layer, at most 15 levels, code-blocks of at most 1024 by 1024 and 4096 samples, the
+-- no SOP, RPCL or PCRL order, one layer, at most 15 levels, code-blocks of at most 1024 by 1024 and 4096 samples, the
 -- HT style, vertically causal or not, and no precinct of one sample above resolution 0
 unfoldable pub cod_tests : List ℕ → List Test
 cod_tests c =
     refuses Style (nat_le 8 (scod c))
     ∷ refuses Sop (scod c / 2 % 2 == 1)
-    ∷ refuses Eph (scod c / 4 % 2 == 1)
-    ∷ refuses Order (not (cod_order c == 3))
+    ∷ refuses Order (not (cod_order c == RPCL || cod_order c == PCRL))
     ∷ refuses Layers (not (cod_layers c == 1))
     ∷ refuses Levels (nat_lt 15 (cod_levels c))
     ∷ refuses Length (not (stated_length c == (if has_sizes c then 13 + cod_levels c else 12)))
@@ -175,6 +191,8 @@ head_values main tile n = record {
   levels = cod_levels (content_of COD main);
   block = cod_block (content_of COD main);
   precincts = cod_precincts (content_of COD main);
+  order = cod_order (content_of COD main);
+  eph = has_eph (content_of COD main);
   psot = sot_psot tile;
   sot = 2 + length (segments_bytes main);
   length = n;

@@ -1,10 +1,6 @@
 -- Bits in bytes with bit stuffing, as packet headers have them (T.800 B.10.1).
 use Rattle.std.specs.Prelude.{◌≡◌, ◌<◌, ◌+◌, ◌-◌, ◌*◌, ◌/◌, ◌%◌, ◌^◌, ◌==◌, ◌&&◌, ℕ, zero, suc, Bool, List, [], ◌∷◌, ◌++◌, length, drop, slice_index, nat_le, nat_lt, Option, Some, None, if◌then◌else◌}
-use Rattle.codestream_model.specs.Bytes.{IsBytes}
-
--- a bit as a number
-abbrev pub bit : Bool → ℕ
-bit b = if b then 1 else 0
+use Rattle.codestream_model.specs.Bytes.{bit, IsBytes}
 
 -- a number in so many bits, the greatest first
 unfoldable pub number_bits : ℕ → ℕ → List Bool

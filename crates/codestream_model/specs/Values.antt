@@ -1,5 +1,5 @@
 -- The values that the definitions speak of: a main header's, a precinct, a grid of code-blocks, a code-block.
-use Rattle.std.specs.Prelude.{ℕ, List}
+use Rattle.std.specs.Prelude.{ℕ, Bool, List}
 
 -- a number for each direction
 pub record Pair : Type 0 where
@@ -8,7 +8,8 @@ pub record Pair : Type 0 where
 
 -- The values of a main header. The image area goes from (x0, y0) up to (x1, y1): XOsiz, YOsiz, Xsiz, Ysiz. `steps` has
 -- XRsiz and YRsiz of each component, `levels` is N_L, `block` has xcb and ycb, `precincts` has PPx and PPy of each
--- resolution from 0 to N_L, `sot` is the offset of SOT and `length` the number of bytes up to and including SOD.
+-- resolution from 0 to N_L, `order` is the progression order's number (2 RPCL, 3 PCRL), `eph` says that an EPH marker
+-- follows each packet header, `sot` is the offset of SOT and `length` the number of bytes up to and including SOD.
 pub record Head : Type 0 where
   pub x0 : ℕ
   pub y0 : ℕ
@@ -18,6 +19,8 @@ pub record Head : Type 0 where
   pub levels : ℕ
   pub block : Pair
   pub precincts : List Pair
+  pub order : ℕ
+  pub eph : Bool
   pub psot : ℕ
   pub sot : ℕ
   pub length : ℕ

@@ -22,8 +22,11 @@ pub use laws::{
 pub use packet_laws::{
     bits_that_are_packed_by_computing_are_packed, empty_packet_is_read, exponent_is_least,
     header_fronts_need_bytes, headers_are_read, headers_are_read_one_way, headers_are_sound,
-    needs_are_read, needs_are_sound, packed_bits_agree, packed_bits_are_carried,
-    packet_headers_are_judged, packet_headers_have_one_verdict, packet_runs_are_read_one_way,
-    packets_are_read_one_way, refusals_are_read, refusals_are_sound, refusals_stay,
-    written_is_header,
+    marked_fronts_need_bytes, marked_headers_are_judged, marked_headers_are_read,
+    marked_headers_are_read_one_way, marked_headers_are_sound, marked_headers_have_one_verdict,
+    marked_needs_are_read, marked_needs_are_sound, marked_refusals_are_read,
+    marked_refusals_are_sound, marked_refusals_stay, needs_are_read, needs_are_sound,
+    packed_bits_agree, packed_bits_are_carried, packet_headers_are_judged,
+    packet_headers_have_one_verdict, packet_runs_are_read_one_way, packets_are_read_one_way,
+    refusals_are_read, refusals_are_sound, refusals_stay, written_is_header,
 };

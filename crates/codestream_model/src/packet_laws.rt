@@ -1,5 +1,6 @@
 //! The laws of the definitions, each on a function that does nothing.
 
+ghost use Rattle.codestream_model.specs.MarkedLaws.{MarkedHeadersAreRead, MarkedHeadersAreSound, MarkedRefusalsAreRead, MarkedRefusalsAreSound, MarkedNeedsAreRead, MarkedNeedsAreSound, MarkedRefusalsStay, MarkedHeadersAreJudged, MarkedHeadersHaveOneVerdict, MarkedHeadersAreReadOneWay, MarkedFrontsNeedBytes};
 ghost use Rattle.codestream_model.specs.PacketLaws.{PackingPacks, PackedBitsAreCarried, PackedBitsAgree, ExponentIsLeast, EmptyPacketIsRead, HeadersAreRead, HeadersAreSound, RefusalsAreRead, RefusalsAreSound, NeedsAreRead, NeedsAreSound, PacketHeadersAreJudged, PacketHeadersHaveOneVerdict, RefusalsStay, HeaderFrontsNeedBytes, HeadersAreReadOneWay, WrittenIsHeader, PacketsAreReadOneWay, PacketRunsAreReadOneWay};
 
 /// Bits that are packed by computing are packed, with pad bits that are 0.
@@ -95,4 +96,59 @@ pub fn packets_are_read_one_way()
 /// Bytes begin with one run of packets of these precincts at most, and it says one thing.
 pub fn packet_runs_are_read_one_way()
     ensures { PacketRunsAreReadOneWay }
+{}
+
+/// A header with its EPH is read as it is spelled, whatever follows it.
+pub fn marked_headers_are_read()
+    ensures { MarkedHeadersAreRead }
+{}
+
+/// What is read of bytes is a header with its EPH at their start.
+pub fn marked_headers_are_sound()
+    ensures { MarkedHeadersAreSound }
+{}
+
+/// Bytes that are refused as a header with its EPH are read as refused, for the same reason.
+pub fn marked_refusals_are_read()
+    ensures { MarkedRefusalsAreRead }
+{}
+
+/// What is read as refused is refused.
+pub fn marked_refusals_are_sound()
+    ensures { MarkedRefusalsAreSound }
+{}
+
+/// Bytes that end before a header with its EPH does, and that nothing refuses, are read so.
+pub fn marked_needs_are_read()
+    ensures { MarkedNeedsAreRead }
+{}
+
+/// What is read so ends before a header with its EPH does, and nothing refuses it.
+pub fn marked_needs_are_sound()
+    ensures { MarkedNeedsAreSound }
+{}
+
+/// A refusal of a header with its EPH stays, whatever follows.
+pub fn marked_refusals_stay()
+    ensures { MarkedRefusalsStay }
+{}
+
+/// Bytes begin with a header and its EPH, or are refused, or end before them.
+pub fn marked_headers_are_judged()
+    ensures { MarkedHeadersAreJudged }
+{}
+
+/// Of these three only one holds of bytes, and a refusal has one reason.
+pub fn marked_headers_have_one_verdict()
+    ensures { MarkedHeadersHaveOneVerdict }
+{}
+
+/// Bytes begin with one header and its EPH at most, and it says one thing.
+pub fn marked_headers_are_read_one_way()
+    ensures { MarkedHeadersAreReadOneWay }
+{}
+
+/// A header with its EPH that lacks its last bytes is unfinished.
+pub fn marked_fronts_need_bytes()
+    ensures { MarkedFrontsNeedBytes }
 {}

@@ -6,8 +6,7 @@ use Rattle.codestream_model.specs.Values.{Head, Place, Block}
 use Rattle.codestream_model.specs.MainHeader.{SpellsHead}
 use Rattle.codestream_model.specs.Precincts.{grids}
 use Rattle.codestream_model.specs.PacketOrder.{IsPacketOrder}
-use Rattle.codestream_model.specs.PacketHeader.{SpellsHeader}
-use Rattle.codestream_model.specs.Packet.{Content, HasFewBlocks, segment_bytes, SpellsPacket}
+use Rattle.codestream_model.specs.Packet.{SpellsPacketHeader, Content, HasFewBlocks, segment_bytes, SpellsPacket}
 use Rattle.codestream_model.specs.Codestream.{SpellsPackets, IsPsotRight, IsCodestream, joined, BeginsCodestream}
 use Rattle.codestream_model.proofs.HeaderSteps.{each_append}
 use Rattle.codestream_walk.specs.Walking.{Stage, AtStart, AtNext, InBody, Walking, Seen, stage_after, passing, GivesHead, GivesStart, GivesMore, GivesEoc}
@@ -72,7 +71,7 @@ some_left k e = grind arith
 
 -- a header and a part of its segments
 pub body_given : (t : Bool) (h : Head) (p : Place) (blocks : List Block) (later : List Place) (at size left : ℕ) (before header part bytes : List ℕ) → (left == 0) ≡ t
-    → BeginsCodestream h (p ∷ later) at [] before → HasFewBlocks (grids h p) → SpellsHeader (grids h p) blocks header → length part + left ≡ segment_bytes blocks → length header + segment_bytes blocks ≤ 16777216 → bytes ≡ before ++ (header ++ part) → size ≡ length bytes
+    → BeginsCodestream h (p ∷ later) at [] before → HasFewBlocks h p → SpellsPacketHeader h p blocks header → length part + left ≡ segment_bytes blocks → length header + segment_bytes blocks ≤ 16777216 → bytes ≡ before ++ (header ++ part) → size ≡ length bytes
     → IsGiven (if t then AtNext h later size else InBody h p blocks later size left) bytes
 body_given true h p blocks later at size left before header part bytes none b few is_header segments fits whole size_is =
     let zero_left : left ≡ 0 = none_left left none in

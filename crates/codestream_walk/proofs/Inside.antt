@@ -3,8 +3,7 @@ use Rattle.std.proofs.Common.{◌≡◌, ◌≤◌, ◌+◌, ℕ, List, [], ◌�
 use Rattle.std.proofs.lemmas.List.{append-nil, length-append}
 use Rattle.codestream_model.specs.Values.{Head, Place, Block}
 use Rattle.codestream_model.specs.Precincts.{grids, IsPrecinct}
-use Rattle.codestream_model.specs.PacketHeader.{SpellsHeader}
-use Rattle.codestream_model.specs.Packet.{HasFewBlocks, segment_bytes, BeginsPacket}
+use Rattle.codestream_model.specs.Packet.{SpellsPacketHeader, HasFewBlocks, segment_bytes, BeginsPacket}
 use Rattle.codestream_model.specs.Bytes.{IsBytes}
 use Rattle.codestream_walk.proofs.Bytes.{bytes_join}
 use Rattle.codestream_model.specs.Codestream.{NeedsNextBytes}
@@ -32,8 +31,8 @@ pub record InPacket (w : Walking) (given : List ℕ) (stage : Stage) (body : Lis
   pub next : BeginsNext w head (place ∷ later) size header
   pub is_precinct : IsPrecinct head place
   pub is : stage ≡ InBody head place blocks later (size + length (front ++ body)) left
-  pub few_blocks : HasFewBlocks (grids head place)
-  pub is_header : SpellsHeader (grids head place) blocks front
+  pub few_blocks : HasFewBlocks head place
+  pub is_header : SpellsPacketHeader head place blocks front
   pub some : 1 ≤ left
   pub segments : length body + left ≡ segment_bytes blocks
   pub fits : length front + segment_bytes blocks ≤ 16777216
@@ -63,7 +62,7 @@ inside_needs w given hand all stage codestreams body (Behind h later size next h
     inr (record { head = h; later = later; size = size; header = given; rest = hand; next = next; whole = whole; needs = wants_next h later size codestreams hand (wants_by stage (AtNext h later size) codestreams hand here n) })
 inside_needs w given hand all stage codestreams body (Within k) whole count n =
     let empty : hand ≡ [] = wants_by stage (InBody k.head k.place k.blocks k.later (k.size + length (k.front ++ body)) k.left) codestreams hand k.is n in
-    let begins : BeginsPacket (grids k.head k.place) k.blocks k.front body (k.front ++ body) = record { few_blocks = k.few_blocks; is_header = k.is_header; whole = refl } in
+    let begins : BeginsPacket k.head k.place k.blocks k.front body (k.front ++ body) = record { few_blocks = k.few_blocks; is_header = k.is_header; whole = refl } in
     let split : all ≡ k.header ++ (k.front ++ body) = whole ∙ (ap (λ (l : List ℕ). given ++ l) empty ∙ (append-nil given ∙ k.whole)) in
     inr (record { head = k.head; later = k.place ∷ k.later; size = k.size; header = k.header; rest = k.front ++ body; next = k.next; whole = split; needs = record { few_blocks = k.few_blocks; unfinished = inr (record { blocks = k.blocks; header = k.front; rest = body; begins = begins; fits = k.fits; lacks = omega (arith, k.segments, k.some) }) } })
 

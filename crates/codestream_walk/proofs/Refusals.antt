@@ -3,12 +3,12 @@ use Rattle.std.proofs.Common.{◌≡◌, ◌<◌, ◌≤◌, ◌⊎◌, ◌+◌,
 use Rattle.std.proofs.lemmas.Bool.{cases_lt}
 use Rattle.std.proofs.lemmas.List.{append-nil, length-append, take_at}
 use Rattle.std.proofs.Math.Seq.{take-append-add}
-use Rattle.codestream_model.specs.Values.{Head, Place, Grid, Block}
+use Rattle.codestream_model.specs.Values.{Head, Place, Block}
 use Rattle.codestream_model.specs.Precincts.{grids}
 use Rattle.codestream_model.specs.Packet.{BeginsPacket, LacksSegments}
 use Rattle.codestream_model.specs.Codestream.{WalkRefusal, HeadRefused, Cut, TooManyBlocks, HeaderRefused, PacketTooLong, Psot, NoEoc, InputTooLong, TooManyFrames, joined, BeginsCodestream, RefusesCodestream, NeedsCodestreamBytes, readable, RefusesRest, RefusesPacket, RefusesEoc}
 use Rattle.codestream_model.proofs.Standing.{refusal_stands}
-use Rattle.codestream_model.proofs.VerdictLemmas.{refusal_stays}
+use Rattle.codestream_model.proofs.Marked.{marked_refusal_stays}
 use Rattle.codestream_model.proofs.Inputs.{refuse_rest}
 use Rattle.codestream_walk.specs.Items.{RefusesHeadItem}
 use Rattle.codestream_walk.specs.Walking.{Stage, AtStart, AtNext, InBody, AtEnd, Walking, WantsIn, RefusesIn}
@@ -16,17 +16,17 @@ use Rattle.codestream_walk.specs.Inputs.{IsGiven, WereGiven, RefusalIsFault, End
 use Rattle.codestream_walk.proofs.Inputs.{begun_more, begun_size, begun_long, body_long}
 
 -- refusals of items stay when bytes are added
-pub packet_refusal_stays : (gs : List Grid) (bytes more : List ℕ) (why : WalkRefusal) → RefusesPacket gs bytes why → RefusesPacket gs (bytes ++ more) why
-packet_refusal_stays gs bytes more TooManyBlocks r = r
-packet_refusal_stays gs bytes more (HeaderRefused why) r = (r.0, refusal_stays gs bytes more why r.1)
-packet_refusal_stays gs bytes more PacketTooLong r =
+pub packet_refusal_stays : (h : Head) (p : Place) (bytes more : List ℕ) (why : WalkRefusal) → RefusesPacket h p bytes why → RefusesPacket h p (bytes ++ more) why
+packet_refusal_stays h p bytes more TooManyBlocks r = r
+packet_refusal_stays h p bytes more (HeaderRefused why) r = (r.0, marked_refusal_stays (grids h p) h.eph bytes more why r.1)
+packet_refusal_stays h p bytes more PacketTooLong r =
     record { blocks = r.blocks; header = r.header; rest = r.rest ++ more; begins = record { few_blocks = r.begins.few_blocks; is_header = r.begins.is_header; whole = ap (λ (l : List ℕ). l ++ more) r.begins.whole ∙ append_assoc r.header r.rest more }; long = r.long }
-packet_refusal_stays gs bytes more (HeadRefused why) r = absurd r
-packet_refusal_stays gs bytes more Cut r = absurd r
-packet_refusal_stays gs bytes more Psot r = absurd r
-packet_refusal_stays gs bytes more NoEoc r = absurd r
-packet_refusal_stays gs bytes more InputTooLong r = absurd r
-packet_refusal_stays gs bytes more TooManyFrames r = absurd r
+packet_refusal_stays h p bytes more (HeadRefused why) r = absurd r
+packet_refusal_stays h p bytes more Cut r = absurd r
+packet_refusal_stays h p bytes more Psot r = absurd r
+packet_refusal_stays h p bytes more NoEoc r = absurd r
+packet_refusal_stays h p bytes more InputTooLong r = absurd r
+packet_refusal_stays h p bytes more TooManyFrames r = absurd r
 
 pub eoc_refusal_stays : (h : Head) (at : ℕ) (bytes more : List ℕ) (why : WalkRefusal) → RefusesEoc h at bytes why → RefusesEoc h at (bytes ++ more) why
 eoc_refusal_stays h at bytes more Psot r = r
@@ -62,7 +62,7 @@ refuses_by_head bytes at NoEoc r = absurd r
 refuses_by_head bytes at InputTooLong r = absurd r
 refuses_by_head bytes at TooManyFrames r = absurd r
 
-pub refuses_by_packet : (h : Head) (p : Place) (later : List Place) (at : ℕ) (rest bytes : List ℕ) (why : WalkRefusal) → BeginsCodestream h (p ∷ later) at rest bytes → RefusesPacket (grids h p) rest why → RefusesCodestream bytes at why
+pub refuses_by_packet : (h : Head) (p : Place) (later : List Place) (at : ℕ) (rest bytes : List ℕ) (why : WalkRefusal) → BeginsCodestream h (p ∷ later) at rest bytes → RefusesPacket h p rest why → RefusesCodestream bytes at why
 refuses_by_packet h p later at rest bytes TooManyBlocks b r = (h, p, later, rest, b, r)
 refuses_by_packet h p later at rest bytes (HeaderRefused why) b r = (h, p, later, rest, b, r)
 refuses_by_packet h p later at rest bytes PacketTooLong b r = (h, p, later, rest, b, r)
@@ -99,7 +99,7 @@ in_codestream (AtNext h [] size) codestreams front hand more at why few b (r, ze
 in_codestream (AtNext h (p ∷ later) size) codestreams front hand more at why few b (r, zero_at) =
     let Q : ℕ → Type 0 = λ n. RefusesCodestream (front ++ (hand ++ more)) n why in
     let place : size ≡ length front + at = omega (arith, zero_at, begun_size h (p ∷ later) size front b) in
-    subst Q place (refuses_by_packet h p later size (hand ++ more) (front ++ (hand ++ more)) why (begun_more h (p ∷ later) size front (hand ++ more) b) (packet_refusal_stays (grids h p) hand more why r))
+    subst Q place (refuses_by_packet h p later size (hand ++ more) (front ++ (hand ++ more)) why (begun_more h (p ∷ later) size front (hand ++ more) b) (packet_refusal_stays h p hand more why r))
 in_codestream (InBody h p blocks later size left) codestreams front hand more at why few b r = absurd r
 in_codestream AtEnd codestreams front hand more at why few b r = absurd r
 
@@ -113,8 +113,8 @@ needs_codestream (AtNext h [] size) codestreams front hand b n inside = (size, i
 needs_codestream (AtNext h (p ∷ later) size) codestreams front hand b (few, n) inside = (size, inr (inl (h, p, later, hand, begun_more h (p ∷ later) size front hand b, record { few_blocks = few; unfinished = inl n })))
 needs_codestream (InBody h p blocks later size left) codestreams front hand (size_is, b) empty inside =
     let P : List ℕ → Type 0 = λ l. NeedsCodestreamBytes l in
-    let begins : BeginsPacket (grids h p) blocks b.header b.part (b.header ++ b.part) = record { few_blocks = b.few_blocks; is_header = b.is_header; whole = refl } in
-    let lacks : LacksSegments (grids h p) (b.header ++ b.part) = record { blocks = blocks; header = b.header; rest = b.part; begins = begins; fits = b.fits; lacks = omega (arith, b.segments, b.some) } in
+    let begins : BeginsPacket h p blocks b.header b.part (b.header ++ b.part) = record { few_blocks = b.few_blocks; is_header = b.is_header; whole = refl } in
+    let lacks : LacksSegments h p (b.header ++ b.part) = record { blocks = blocks; header = b.header; rest = b.part; begins = begins; fits = b.fits; lacks = omega (arith, b.segments, b.some) } in
     let whole : front ++ hand ≡ b.before ++ (b.header ++ b.part) = ap (λ (l : List ℕ). front ++ l) empty ∙ (append-nil front ∙ b.whole) in
     subst P (sym whole) (b.at, inr (inl (h, p, later, b.header ++ b.part, begun_more h (p ∷ later) b.at b.before (b.header ++ b.part) b.begins, record { few_blocks = b.few_blocks; unfinished = inr lacks })))
 needs_codestream AtEnd codestreams front hand b n inside = absurd n

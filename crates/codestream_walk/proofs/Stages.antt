@@ -8,8 +8,7 @@ use Rattle.codestream_model.specs.HeadLimits.{IsWithinLimits}
 use Rattle.codestream_model.specs.PacketOrder.{IsPacketOrder, packet_order}
 use Rattle.codestream_model.proofs.Orders.{packet_order_is_computed}
 use Rattle.pcrl_order.proofs.InOrder.{has_steps}
-use Rattle.codestream_model.specs.PacketHeader.{NeedsHeaderBytes}
-use Rattle.codestream_model.specs.Packet.{HasFewBlocks, segment_bytes}
+use Rattle.codestream_model.specs.Packet.{NeedsPacketHeaderBytes, HasFewBlocks, segment_bytes}
 use Rattle.codestream_model.specs.Codestream.{WalkRefusal, HeadRefused, RefusesPacket}
 use Rattle.codestream_model.specs.HeadRefusals.{HeadRefusal, Cut as HeadCut}
 use Rattle.codestream_model.specs.RefusedHeader.{RefusesHead}
@@ -72,7 +71,7 @@ passed input new n codestreams stage after few is = rw (is, given_size n input.b
 
 -- a packet's header is given
 pub gives_start : (stage : State) (b : Progress) (p0 : Place) (bs0 : List Block) (size left : ℕ) (input new : InHand) (codestreams : ℕ) (h : Head) (p : Place) (later : List Place) (n used body : ℕ) (blocks : List Block)
-    → stage_of stage (Some b) p0 bs0 size left ≡ AtNext h (p ∷ later) n → IsPrecinct b.head p → JudgesPacket (grids b.head p) input.bytes (Whole used body) blocks → new ≡ giving used input
+    → stage_of stage (Some b) p0 bs0 size left ≡ AtNext h (p ∷ later) n → IsPrecinct b.head p → JudgesPacket b.head p input.bytes (Whole used body) blocks → new ≡ giving used input
     → GivesStart (walk_of input codestreams (stage_of stage (Some b) p0 bs0 size left)) (Some b.head) (seen_of new codestreams (stage_of (staged body) (Some (after_packet b)) p blocks (size + used) body) (Some b.head) p blocks)
 gives_start stage b p0 bs0 size left input new codestreams h p later n used body blocks e precinct (begins, few, body_is, fits) is =
     let parts = at_next stage b p0 bs0 size left h (p ∷ later) n e in
@@ -142,18 +141,18 @@ same_stage code.Body b p bs cs size left h later n e = absurd (cc)
 same_stage code.End b p bs cs size left h later n e = refl
 
 -- a packet's header isn't whole
-pub wants_packet : (b : Progress) (stage : Stage) (h : Head) (p : Place) (later : List Place) (n codestreams : ℕ) (bytes : List ℕ) → stage ≡ AtNext h (p ∷ later) n → b.head ≡ h → HasFewBlocks (grids b.head p) → NeedsHeaderBytes (grids b.head p) bytes → WantsIn stage codestreams bytes
+pub wants_packet : (b : Progress) (stage : Stage) (h : Head) (p : Place) (later : List Place) (n codestreams : ℕ) (bytes : List ℕ) → stage ≡ AtNext h (p ∷ later) n → b.head ≡ h → HasFewBlocks b.head p → NeedsPacketHeaderBytes b.head p bytes → WantsIn stage codestreams bytes
 wants_packet b stage h p later n codestreams bytes e same few needs =
     let P : Stage → Type 0 = λ t. WantsIn t codestreams bytes in
-    let Q : Head → Type 0 = λ k. HasFewBlocks (grids k p) × NeedsHeaderBytes (grids k p) bytes in
+    let Q : Head → Type 0 = λ k. HasFewBlocks k p × NeedsPacketHeaderBytes k p bytes in
     subst P (sym e) (subst Q same (few, needs))
 
 -- a packet is refused
-pub refuses_packet : (b : Progress) (stage : Stage) (h : Head) (p : Place) (later : List Place) (n codestreams offset at : ℕ) (bytes : List ℕ) (why : WalkRefusal) → stage ≡ AtNext h (p ∷ later) n → b.head ≡ h → RefusesPacket (grids b.head p) bytes why → at ≡ offset
+pub refuses_packet : (b : Progress) (stage : Stage) (h : Head) (p : Place) (later : List Place) (n codestreams offset at : ℕ) (bytes : List ℕ) (why : WalkRefusal) → stage ≡ AtNext h (p ∷ later) n → b.head ≡ h → RefusesPacket b.head p bytes why → at ≡ offset
     → Refuses (record { hand = bytes; offset = offset; codestreams = codestreams; stage = stage }) at why
 refuses_packet b stage h p later n codestreams offset at bytes why e same r is =
     let P : Stage → Type 0 = λ t. RefusesIn t codestreams bytes 0 why in
-    let Q : Head → Type 0 = λ k. RefusesPacket (grids k p) bytes why in
+    let Q : Head → Type 0 = λ k. RefusesPacket k p bytes why in
     (0, subst P (sym e) (subst Q same r, refl), omega arith)
 
 -- more of a packet's segments is given
@@ -285,7 +284,6 @@ not_cut head_why.Style n e = absurd (cc)
 not_cut head_why.Precinct n e = absurd (cc)
 not_cut head_why.Quant n e = absurd (cc)
 not_cut head_why.Sop n e = absurd (cc)
-not_cut head_why.Eph n e = absurd (cc)
 not_cut head_why.TileHeader n e = absurd (cc)
 not_cut head_why.Ids n e = absurd (cc)
 not_cut head_why.TooLong n e = absurd (cc)

@@ -40,13 +40,13 @@ still_live s t u v es p = ap (λ (w : Walking). is_live w.stage) p.now ∙ p.liv
 -- what holds of a reader that waits for more bytes
 pub record IsOpen (v : Seen) : Type 0 where
   pub wants : Wants v.walk
-  pub short : length v.walk.hand < 65536
+  pub short : length v.walk.hand < 65538
   pub within : reach v.walk ≤ input_limit
 
 -- what holds before a further read
 waits : (s t : Meaning) (u v : Seen) (es : List Event) → Stepping s t u v es → IsOpen v → Waits u.walk (effects es)
 waits s t u v es p o =
-    let P : Walking → Type 0 = λ w. Wants w × (length w.hand < 65536) × (reach w ≤ input_limit) in
+    let P : Walking → Type 0 = λ w. Wants w × (length w.hand < 65538) × (reach w ≤ input_limit) in
     let Q : Effects → Type 0 = λ f. Waits u.walk f in
     let k = subst P p.now (o.wants, o.short, o.within) in
     subst Q (sym p.reads) (record { reads = refl; are_bytes = p.are_bytes; wants = k.0; short = k.1; within = k.2 })

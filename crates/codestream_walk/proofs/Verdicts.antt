@@ -6,24 +6,23 @@ use Rattle.codestream_model.specs.HeadRefusals.{Cut as HeadCut}
 use Rattle.codestream_model.specs.RefusedHeader.{RefusesHead}
 use Rattle.codestream_model.specs.MainHeader.{SpellsHead}
 use Rattle.codestream_model.specs.Precincts.{grids}
-use Rattle.codestream_model.specs.PacketHeader.{NeedsHeaderBytes}
-use Rattle.codestream_model.specs.Packet.{HasFewBlocks, BeginsPacket}
+use Rattle.codestream_model.specs.Packet.{NeedsPacketHeaderBytes, HasFewBlocks, BeginsPacket}
 use Rattle.codestream_model.specs.Codestream.{WalkRefusal, HeadRefused, Cut, TooManyBlocks, HeaderRefused, PacketTooLong, Psot, NoEoc, InputTooLong, TooManyFrames, RefusesPacket, RefusesEoc}
 use Rattle.codestream_model.proofs.HeaderJudged.{header_is_not_refused, refusal_is_one}
 use Rattle.codestream_model.proofs.OwnBands.{own_bands}
-use Rattle.codestream_model.proofs.VerdictLemmas.{one_verdict}
+use Rattle.codestream_model.proofs.MarkedVerdicts.{one_marked_verdict}
 use Rattle.codestream_walk.specs.Items.{RefusesHeadItem}
 use Rattle.codestream_walk.specs.Walking.{Stage, AtStart, AtNext, InBody, AtEnd, WantsIn, RefusesIn}
 use Rattle.codestream_walk.specs.Inputs.{WantsFixNothing}
 use Rattle.codestream_walk.specs.declared.fault.PieceOut.TheVariants as out
 
 -- a packet's header
-begins_not_needs : (h : Head) (p : Place) (blocks : List Block) (header rest bytes : List ℕ) → BeginsPacket (grids h p) blocks header rest bytes → NeedsHeaderBytes (grids h p) bytes → ⊥
-begins_not_needs h p blocks header rest bytes b n = (one_verdict (grids h p) bytes (own_bands h p)).not_unfinished (blocks, header, rest, b.is_header, b.whole) n
+begins_not_needs : (h : Head) (p : Place) (blocks : List Block) (header rest bytes : List ℕ) → BeginsPacket h p blocks header rest bytes → NeedsPacketHeaderBytes h p bytes → ⊥
+begins_not_needs h p blocks header rest bytes b n = (one_marked_verdict (grids h p) h.eph bytes (own_bands h p)).not_unfinished (blocks, header, rest, b.is_header, b.whole) n
 
-refused_not_needs : (h : Head) (p : Place) (bytes : List ℕ) (why : WalkRefusal) → RefusesPacket (grids h p) bytes why → HasFewBlocks (grids h p) → NeedsHeaderBytes (grids h p) bytes → ⊥
+refused_not_needs : (h : Head) (p : Place) (bytes : List ℕ) (why : WalkRefusal) → RefusesPacket h p bytes why → HasFewBlocks h p → NeedsPacketHeaderBytes h p bytes → ⊥
 refused_not_needs h p bytes TooManyBlocks r few n = omega (arith, r, few)
-refused_not_needs h p bytes (HeaderRefused why) r few n = (one_verdict (grids h p) bytes (own_bands h p)).not_both why r.1 n
+refused_not_needs h p bytes (HeaderRefused why) r few n = (one_marked_verdict (grids h p) h.eph bytes (own_bands h p)).not_both why r.1 n
 refused_not_needs h p bytes PacketTooLong r few n = begins_not_needs h p r.blocks r.header r.rest bytes r.begins n
 refused_not_needs h p bytes (HeadRefused why) r few n = absurd r
 refused_not_needs h p bytes Cut r few n = absurd r

@@ -18,6 +18,7 @@ header_refusal why.CleanupShort = header.CleanupShort
 header_refusal why.CleanupLong = header.CleanupLong
 header_refusal why.RefineLong = header.RefineLong
 header_refusal why.ZeroPlanes = header.ZeroPlanes
+header_refusal why.NoEph = header.NoEph
 header_refusal why.TooLong = header.TooLong
 
 -- An input is refused for this reason of the definitions.

@@ -4,8 +4,7 @@ use Rattle.std.specs.Prelude.{◌≡◌, ◌≤◌, ◌<◌, ◌⊎◌, ◌+◌,
 use Rattle.std.specs.List.{AllByRecursion}
 use Rattle.codestream_model.specs.Values.{Head, Place, Block}
 use Rattle.codestream_model.specs.Precincts.{grids}
-use Rattle.codestream_model.specs.PacketHeader.{SpellsHeader}
-use Rattle.codestream_model.specs.Packet.{HasFewBlocks, segment_bytes}
+use Rattle.codestream_model.specs.Packet.{SpellsPacketHeader, HasFewBlocks, segment_bytes}
 use Rattle.codestream_model.specs.Codestream.{WalkRefusal, Cut, InputTooLong, TooManyFrames, IsCodestream, joined, BeginsCodestream, Faults, IsInput}
 use Rattle.codestream_walk.specs.InHand.{input_limit}
 use Rattle.codestream_walk.specs.Walking.{Stage, AtStart, AtNext, InBody, AtEnd, Walking, Seen, reach, Wants, Refuses}
@@ -19,8 +18,8 @@ pub record BeginsBody (h : Head) (p : Place) (blocks : List Block) (later : List
   pub header : List ℕ
   pub part : List ℕ
   pub begins : BeginsCodestream h (p ∷ later) at [] before
-  pub few_blocks : HasFewBlocks (grids h p)
-  pub is_header : SpellsHeader (grids h p) blocks header
+  pub few_blocks : HasFewBlocks h p
+  pub is_header : SpellsPacketHeader h p blocks header
   pub some : 1 ≤ left
   pub segments : length part + left ≡ segment_bytes blocks
   pub fits : length header + segment_bytes blocks ≤ 16777216

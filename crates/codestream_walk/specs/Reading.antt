@@ -26,12 +26,12 @@ Gives (out.Refused fault) w before v = Refuses w fault.at (walk_refusal fault.wh
 Gives out.End w before v = ⊥
 Gives out.ReadFault w before v = ⊥
 
--- Fewer than 65,536 bytes are in hand, they fix no answer, and a reader is as far as it was.
+-- Fewer than 65,538 bytes are in hand, they fix no answer, and a reader is as far as it was.
 pub record IsWaiting (u v : Seen) : Type 0 where
   pub walk : v.walk ≡ u.walk
   pub shown : v.head ≡ u.head
   pub wants : Wants u.walk
-  pub short : length u.walk.hand < 65536
+  pub short : length u.walk.hand < 65538
 
 -- The bytes in hand are judged: they fix an answer, or more are wanted.
 abbrev pub Judges : Judged → Seen → Seen → Type 0
@@ -58,12 +58,12 @@ Passes fault w =
     (fault.at ≡ input_limit)
     × ((IsFull w × (fault.why ≡ reason.TooManyFrames)) ⊎ ((IsFull w → ⊥) × (fault.why ≡ reason.InputTooLong)))
 
--- Only reads were made so far. With what they brought fewer than 65,536 bytes are in hand, and these fix no answer.
+-- Only reads were made so far. With what they brought fewer than 65,538 bytes are in hand, and these fix no answer.
 pub record Waits (w : Walking) (f : Effects) : Type 0 where
   pub reads : f ≡ only_read f.read
   pub are_bytes : IsBytes f.read
   pub wants : Wants (fed w f.read)
-  pub short : length (fed w f.read).hand < 65536
+  pub short : length (fed w f.read).hand < 65538
   pub within : reach (fed w f.read) ≤ input_limit
 
 -- Only reads were made, and the bytes that are in hand after them fix the answer.

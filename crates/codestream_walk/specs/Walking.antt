@@ -4,8 +4,7 @@ use Rattle.codestream_model.specs.Values.{Head, Place, Block}
 use Rattle.codestream_model.specs.MainHeader.{SpellsHead}
 use Rattle.codestream_model.specs.Precincts.{grids, IsPrecinct}
 use Rattle.codestream_model.specs.PacketOrder.{IsPacketOrder}
-use Rattle.codestream_model.specs.PacketHeader.{NeedsHeaderBytes}
-use Rattle.codestream_model.specs.Packet.{HasFewBlocks, segment_bytes, BeginsPacket}
+use Rattle.codestream_model.specs.Packet.{NeedsPacketHeaderBytes, HasFewBlocks, segment_bytes, BeginsPacket}
 use Rattle.codestream_model.specs.Codestream.{WalkRefusal, TooManyFrames, IsPsotRight, RefusesEoc, NeedsEocBytes, RefusesPacket}
 use Rattle.codestream_walk.specs.Items.{RefusesHeadItem, NeedsHeadBytes}
 
@@ -49,7 +48,7 @@ stage_after h p blocks later size left = if left == 0 then AtNext h later size e
 abbrev pub WantsIn : Stage → ℕ → List ℕ → Type 0
 WantsIn AtStart codestreams hand = (hand ≡ []) ⊎ ((codestreams < 65536) × NeedsHeadBytes hand)
 WantsIn (AtNext h [] size) codestreams hand = NeedsEocBytes h size hand
-WantsIn (AtNext h (p ∷ later) size) codestreams hand = HasFewBlocks (grids h p) × NeedsHeaderBytes (grids h p) hand
+WantsIn (AtNext h (p ∷ later) size) codestreams hand = HasFewBlocks h p × NeedsPacketHeaderBytes h p hand
 WantsIn (InBody h p blocks later size left) codestreams hand = hand ≡ []
 WantsIn AtEnd codestreams hand = ⊥
 
@@ -62,7 +61,7 @@ abbrev pub RefusesIn : Stage → ℕ → List ℕ → ℕ → WalkRefusal → Ty
 RefusesIn AtStart codestreams hand at why =
     (1 ≤ length hand) × (((codestreams ≡ 65536) × (at ≡ 0) × (why ≡ TooManyFrames)) ⊎ ((codestreams < 65536) × RefusesHeadItem hand at why))
 RefusesIn (AtNext h [] size) codestreams hand at why = RefusesEoc h size hand why × (at ≡ 0)
-RefusesIn (AtNext h (p ∷ later) size) codestreams hand at why = RefusesPacket (grids h p) hand why × (at ≡ 0)
+RefusesIn (AtNext h (p ∷ later) size) codestreams hand at why = RefusesPacket h p hand why × (at ≡ 0)
 RefusesIn (InBody h p blocks later size left) codestreams hand at why = ⊥
 RefusesIn AtEnd codestreams hand at why = ⊥
 
@@ -100,7 +99,7 @@ pub record GivesStart (w : Walking) (before : Option Head) (v : Seen) : Type 0 w
   pub rest : List ℕ
   pub stage : w.stage ≡ AtNext head (place ∷ later) size
   pub is_precinct : IsPrecinct head place
-  pub begins : BeginsPacket (grids head place) blocks front rest w.hand
+  pub begins : BeginsPacket head place blocks front rest w.hand
   pub fits : length front + segment_bytes blocks ≤ 16777216
   pub now : v.walk ≡ passing w front rest (stage_after head place blocks later (size + length front) (segment_bytes blocks))
   pub given : v.given ≡ front

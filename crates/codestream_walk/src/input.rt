@@ -12,8 +12,8 @@ use std::marker::Model;
 /// The greatest number of bytes that are read of an input.
 pub(crate) const INPUT_LIMIT: u64 = 1_099_511_627_776;
 
-/// No item that is waited for has this many bytes: a main header has at most 8,192, a packet header at most 65,536.
-const LONGEST: usize = 65_536;
+/// No item that is waited for has this many bytes: a main header has at most 8,192, a packet header with its EPH at most 65,538.
+const LONGEST: usize = 65_538;
 
 /// The buffer has room for the bytes of an item and as many more.
 const ROOM: usize = 131_072;
@@ -117,7 +117,7 @@ impl Input {
 
     /// Asks for more bytes, by one read. The bytes given last are gone.
     pub fn more<D: Duct>(&mut self, duct: &mut D) -> Wider
-        requires { length self.old.bytes < 65536 }
+        requires { length self.old.bytes < 65538 }
         ensures { Widens self.old (D.meaning duct.old) result self.new (D.meaning duct.new) }
     {
         let (from, to) = settled(&mut self.buf, self.from, self.to);
@@ -147,7 +147,7 @@ fn settled(buf: &mut Vec<u8>, from: usize, to: usize) -> (usize, usize)
     requires range { from ≤ to }
     requires within { to ≤ 131072 }
     requires size { vec_len buf.old ≡ 131072 }
-    requires few { to < from + 65536 }
+    requires few { to < from + 65538 }
     ensures same { slice_range buf.new.items result.0 result.1 ≡ slice_range buf.old.items from to }
     ensures range { result.1 ≡ result.0 + (to - from) }
     ensures room { result.1 < 131072 }
@@ -156,7 +156,7 @@ fn settled(buf: &mut Vec<u8>, from: usize, to: usize) -> (usize, usize)
     if from == to {
         return (0, 0);
     }
-    if from < LONGEST {
+    if from < ROOM - LONGEST {
         return (from, to);
     }
     buf.copy_within(from..to, 0);

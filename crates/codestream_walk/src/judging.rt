@@ -1,7 +1,7 @@
 //! What bytes are, where a packet or EOC should begin.
 ghost use Rattle.std.specs.Prelude.{◌≡◌, ◌≤◌, ◌<◌, ◌+◌, ◌-◌, IfSome, IsNone, map, length};
 ghost use Rattle.codestream_model.specs.Packet.{segment_bytes};
-ghost use Rattle.codestream_model.specs.Precincts.{grids, IsPrecinct};
+ghost use Rattle.codestream_model.specs.Precincts.{IsPrecinct};
 ghost use Rattle.precinct_geometry.specs.Spans.{place_of};
 ghost use Rattle.packet_header.specs.Answers.{block_of};
 ghost use Rattle.codestream_walk.specs.Judging.{JudgesPacket, JudgesEoc};
@@ -41,7 +41,7 @@ pub enum Eoc {
 /// The number of bytes of the segments of these code-blocks, or None where they and a header of `header` bytes are
 /// longer than a packet may be.
 fn body_length(blocks: &[Block], header: usize) -> Option<u32>
-    requires { header ≤ 65536 }
+    requires { header ≤ 65538 }
     ensures some { IfSome result (λ body. (body ≡ segment_bytes (map block_of blocks.now))
         × (header + body ≤ 16777216)) }
     ensures none { IsNone result → 16777216 < header + segment_bytes (map block_of blocks.now) }
@@ -67,14 +67,15 @@ pub fn judge_packet(
     requires place { IsPrecinct geometry.now (place_of place) }
     requires room { reader.old.room ≡ 65536 }
     ensures room { reader.new.room ≡ 65536 }
-    ensures judged { JudgesPacket (grids geometry.now (place_of place)) bytes.now result
+    ensures judged { JudgesPacket geometry.now (place_of place) bytes.now result
         (map block_of reader.new.blocks) }
 {
     if geometry.blocks(place) > MOST_BLOCKS {
         return Header::Refused(WalkWhy::TooManyBlocks);
     }
     let bands = geometry.bands(place);
-    match reader.read(&bands, bytes) {
+    let eph = geometry.head().eph();
+    match reader.read(&bands, eph, bytes) {
         HeaderOut::Done(used) => match body_length(reader.blocks(), used) {
             Some(body) => Header::Whole(used, body),
             None => Header::Refused(WalkWhy::PacketTooLong),

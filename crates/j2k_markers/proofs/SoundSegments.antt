@@ -14,7 +14,7 @@ unfolding siz_tests
 sound_siz c long e =
     let k = checks (siz_tests c) e in
     let whole : stated_length c ≡ 38 + 3 * csiz c = eqb-true (stated_length c) (38 + 3 * csiz c) (not-false (stated_length c == 38 + 3 * csiz c) k.1.1.0) in
-    record { long = long; few = ltb-false 4 (csiz c) k.1.0; whole = omega arith; steps = k.1.1.1.1.1.1.1.1.1.1.1.1.0 }
+    record { long = long; few = ltb-false 16 (csiz c) k.1.0; whole = omega arith; steps = k.1.1.1.1.1.1.1.1.1.1.1.1.0 }
 
 -- two more bytes
 less_two : (t : Bool) (n l : ℕ) → n + 2 ≡ (if t then 13 + l else 12) → n ≡ (if t then 11 + l else 10)
@@ -26,11 +26,11 @@ pub sound_cod : (c : List ℕ) → 10 ≤ length c → Passes (cod_tests c) → 
 unfolding cod_tests
 sound_cod c long e =
     let k = checks (cod_tests c) e in
-    let k6 = k.1.1.1.1.1.1 in
+    let k5 = k.1.1.1.1.1 in
     let stated = if has_sizes c then 13 + cod_levels c else 12 in
-    let whole : stated_length c ≡ stated = eqb-true (stated_length c) stated (not-false (stated_length c == stated) k6.0) in
+    let whole : stated_length c ≡ stated = eqb-true (stated_length c) stated (not-false (stated_length c == stated) k5.0) in
     record {
-      is_whole = record { long = long; few = ltb-false 15 (cod_levels c) k.1.1.1.1.1.0; whole = less_two (has_sizes c) (length c) (cod_levels c) whole };
-      wide = ltb-false 8 (slice_index c 6) k6.1.0;
-      high = ltb-false 8 (slice_index c 7) k6.1.1.0;
+      is_whole = record { long = long; few = ltb-false 15 (cod_levels c) k.1.1.1.1.0; whole = less_two (has_sizes c) (length c) (cod_levels c) whole };
+      wide = ltb-false 8 (slice_index c 6) k5.1.0;
+      high = ltb-false 8 (slice_index c 7) k5.1.1.0;
     }

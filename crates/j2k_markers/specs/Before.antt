@@ -5,15 +5,13 @@ use Rattle.codestream_model.specs.Segments.{CAP, SIZ, COD, QCD, SOT, SOD, Segmen
 use Rattle.codestream_model.specs.HeadRefusals.{Test, refuses, NoSiz, Marker, Twice, Missing, Length}
 use Rattle.codestream_model.specs.MainHeader.{stands_once, is_main_marker, is_tile_marker, least_length, content_tests}
 use Rattle.codestream_model.specs.RefusedHeader.{wanting}
-use Rattle.codestream_model.specs.SegmentTests.{cod_levels}
+use Rattle.codestream_model.specs.SegmentTests.{tile_tests}
 use Rattle.j2k_markers.specs.declared.head.HeadWhy.{HeadWhy}
 use Rattle.j2k_markers.specs.declared.head.HeadWhy.TheVariants as why
 use Rattle.j2k_markers.specs.declared.segments.Before.{Before}
 use Rattle.j2k_markers.specs.declared.segments.Segment.{Segment as Piece}
 use Rattle.j2k_markers.specs.declared.segments.Turn.{Turn}
 use Rattle.j2k_markers.specs.declared.segments.Turn.TheVariants as turn
-use Rattle.j2k_markers.specs.Fields.{head_from}
-use Rattle.j2k_markers.specs.Parts.{one_part_tests, quant_tests, number_tests}
 use Rattle.j2k_markers.specs.Sound.{IsSoundSiz, IsSoundCod}
 
 -- the content of a segment that may stand once
@@ -47,9 +45,13 @@ marker_tests w m =
 abbrev pub length_tests : ℕ → ℕ → List Test
 length_tests m n = refuses Length (nat_lt n (least_length m)) ∷ refuses Length (m == SOT && not (n == 10)) ∷ []
 
--- the conditions at SOT, with these contents of SIZ, COD and QCD
+-- Segments of SIZ, COD and QCD with these contents.
+abbrev pub segments_with : List ℕ → List ℕ → List ℕ → List Segment
+segments_with siz cod qcd = record { marker = SIZ; content = siz } ∷ record { marker = COD; content = cod } ∷ record { marker = QCD; content = qcd } ∷ []
+
+-- The conditions on a content of SOT that follows segments with these contents of SIZ, COD and QCD.
 abbrev pub sot_tests : List ℕ → List ℕ → List ℕ → List ℕ → List Test
-sot_tests siz cod qcd c = one_part_tests c ++ (quant_tests qcd (cod_levels cod) ++ number_tests (head_from siz cod 0 0 0))
+sot_tests siz cod qcd c = tile_tests (segments_with siz cod qcd) c
 
 -- the conditions on a content
 abbrev pub kept_content_tests : Before → ℕ → List ℕ → List Test

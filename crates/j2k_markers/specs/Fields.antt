@@ -1,7 +1,7 @@
 -- The fields of a head as the values that the definitions speak of.
 use Rattle.std.specs.Prelude.{◌≡◌, ◌<◌, ◌≤◌, ◌+◌, ℕ, List, map, length}
 use Rattle.std.specs.List.{All}
-use Rattle.codestream_model.specs.SegmentTests.{xosiz, yosiz, xsiz, ysiz, siz_steps, cod_levels, cod_block, cod_precincts}
+use Rattle.codestream_model.specs.SegmentTests.{xosiz, yosiz, xsiz, ysiz, siz_steps, cod_levels, cod_block, cod_precincts, cod_order, has_eph}
 use Rattle.codestream_model.specs.Values.{Pair, Head}
 use Rattle.j2k_markers.specs.declared.head.Fields.{Fields}
 
@@ -20,6 +20,8 @@ fields_head a psot sot n = record {
   levels = a.levels;
   block = pair a.block;
   precincts = map pair a.precincts.items;
+  order = a.order;
+  eph = a.eph;
   psot = psot;
   sot = sot;
   length = n;
@@ -36,6 +38,8 @@ head_from siz cod psot sot n = record {
   levels = cod_levels cod;
   block = cod_block cod;
   precincts = cod_precincts cod;
+  order = cod_order cod;
+  eph = has_eph cod;
   psot = psot;
   sot = sot;
   length = n;

@@ -27,10 +27,11 @@ siz_content plan =
     ++ ((0 ∷ length plan.steps.items ∷ [])
     ++ flat_map step_bytes plan.steps.items))
 
--- the content of COD: PCRL order, one layer, no component transform, the 5/3 wavelet
+-- The content of COD: the plan's order, one layer, no component transform, the 5/3 wavelet. Bit 0 of Scod says that there are
+-- precinct sizes, bit 2 that EPH markers follow the packet headers.
 unfoldable pub cod_content : HeadPlan → List ℕ
 cod_content plan =
-    ((if length plan.precincts.items == 0 then 0 else 1) ∷ 3 ∷ 0 ∷ 1 ∷ 0 ∷ plan.levels ∷ (plan.block.0 - 2) ∷ (plan.block.1 - 2) ∷ plan.style ∷ 1 ∷ [])
+    (((if length plan.precincts.items == 0 then 0 else 1) + (if plan.eph then 4 else 0)) ∷ plan.order ∷ 0 ∷ 1 ∷ 0 ∷ plan.levels ∷ (plan.block.0 - 2) ∷ (plan.block.1 - 2) ∷ plan.style ∷ 1 ∷ [])
     ++ flat_map precinct_byte plan.precincts.items
 
 -- the content of QCD: no quantisation

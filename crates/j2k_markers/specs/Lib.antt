@@ -1,6 +1,5 @@
 pub mod Fields
 pub mod Refusals
-pub mod Parts
 pub mod Sound
 pub mod Before
 pub mod Walking

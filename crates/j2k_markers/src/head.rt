@@ -1,5 +1,5 @@
 //! The values of a main header, and why bytes don't begin with one.
-ghost use Rattle.std.specs.Prelude.{◌≡◌, ◌<◌, ◌≤◌, ◌+◌, ◌^◌, ℕ, length, slice_index_or};
+ghost use Rattle.std.specs.Prelude.{◌≡◌, ◌<◌, ◌≤◌, ◌⊎◌, ◌+◌, ◌^◌, ℕ, length, slice_index_or};
 ghost use Rattle.codestream_model.specs.HeadLimits.{IsWithinLimits};
 ghost use Rattle.codestream_model.specs.Areas.{step_of};
 ghost use Rattle.codestream_model.specs.Precincts.{precinct_exponents};
@@ -7,6 +7,15 @@ ghost use Rattle.j2k_markers.specs.Fields.{pair, fields_head};
 
 use arrayvec::ArrayVec;
 use std::marker::Model;
+
+/// The greatest number of components of the profile.
+pub const MOST_COMPONENTS: usize = 16;
+
+/// The number of the progression order resolution, position, component, layer (T.800 table A.16).
+pub const RPCL: u8 = 2;
+
+/// The number of the progression order position, component, resolution, layer.
+pub const PCRL: u8 = 3;
 
 /// Why bytes don't begin with a main header of the profile.
 #[derive(Clone, Copy, Debug, PartialEq, Eq)]
@@ -27,7 +36,7 @@ pub enum HeadWhy {
     Missing(u16),
     /// SIZ: the first tile isn't the whole image.
     Tiles,
-    /// SIZ: not one to four components.
+    /// SIZ: not one to sixteen components.
     Components,
     /// SIZ: a step of 0.
     Step,
@@ -37,7 +46,7 @@ pub enum HeadWhy {
     Rsiz,
     /// CAP: other capabilities than part 15's, or code-blocks that aren't all HT with one set each.
     Cap,
-    /// COD: the progression order isn't PCRL.
+    /// COD: the progression order is neither RPCL nor PCRL.
     Order,
     /// COD: not one layer.
     Layers,
@@ -53,8 +62,6 @@ pub enum HeadWhy {
     Quant,
     /// COD: SOP markers.
     Sop,
-    /// COD: EPH markers.
-    Eph,
     /// SOT: not the one tile-part of the one tile.
     TileHeader,
     /// A precinct would have a number of 2^20 or more.
@@ -80,15 +87,17 @@ pub(crate) struct Fields {
     pub(crate) y0: u32,
     pub(crate) x1: u32,
     pub(crate) y1: u32,
-    pub(crate) steps: ArrayVec<(u8, u8), 4>,
+    pub(crate) steps: ArrayVec<(u8, u8), MOST_COMPONENTS>,
     pub(crate) levels: u8,
     pub(crate) block: (u8, u8),
     pub(crate) precincts: ArrayVec<(u8, u8), 16>,
+    pub(crate) order: u8,
+    pub(crate) eph: bool,
 }
 
 /// The values of a main header.
 ///
-/// Each is within the limits of the profile: one to four components, none of them empty, at most 15
+/// Each is within the limits of the profile: one to sixteen components, none of them empty, at most 15
 /// decomposition levels, and numbers of precincts below 2^20.
 #[derive(Debug, Drop)]
 pub struct Head {
@@ -151,11 +160,11 @@ impl Head {
         )
     }
 
-    /// The number of components, 1 to 4.
+    /// Csiz, the number of components, 1 to 16.
     pub fn components(&self) -> u8
         ensures count { result ≡ length self.now.steps }
         ensures some { 1 ≤ result }
-        ensures few { result ≤ 4 }
+        ensures few { result ≤ 16 }
     {
         self.fields.steps.len() as u8
     }
@@ -199,6 +208,21 @@ impl Head {
         ensures least_y { 0 < r → 1 ≤ result.1 }
     {
         self.fields.precincts[usize::from(r)]
+    }
+
+    /// The progression order: [`RPCL`] or [`PCRL`].
+    pub fn order(&self) -> u8
+        ensures order { result ≡ self.now.order }
+        ensures known { (result ≡ 2) ⊎ (result ≡ 3) }
+    {
+        self.fields.order
+    }
+
+    /// Whether an EPH marker follows each packet header, that of an empty packet too.
+    pub fn eph(&self) -> bool
+        ensures { result ≡ self.now.eph }
+    {
+        self.fields.eph
     }
 
     /// Psot: the number of bytes from SOT to the end of the packets, or 0 where they end at EOC.

@@ -1,5 +1,5 @@
 //! The numbers of precincts, PID: whether one would be 2^20 or more. They are counted with more than 64
-//! bits, since four components may have more precincts than 64 bits can count.
+//! bits, since sixteen components may have more precincts than 64 bits can count.
 ghost use Rattle.std.specs.Prelude.{◌≡◌, ◌<◌, ◌≤◌, ◌+◌, ◌-◌, ◌*◌, ◌^◌, ℕ, length, nat_lt};
 ghost use Rattle.codestream_model.specs.Areas.{ceil_div, step_of};
 ghost use Rattle.codestream_model.specs.Precincts.{strips, precinct_count, precinct_exponents};
@@ -97,7 +97,7 @@ fn count_all(fields: &Fields, c: usize) -> u128
 /// One more than the greatest PID of a component's precincts.
 fn end_of(fields: &Fields, c: usize) -> u128
     requires sound { IsSoundFields fields.now }
-    requires few { length fields.now.steps.items ≤ 4 }
+    requires few { length fields.now.steps.items ≤ 16 }
     requires component { c < length fields.now.steps.items }
     ensures { result ≡ pids_end (fields_head fields.now 0 0 0) c }
 {
@@ -108,7 +108,7 @@ fn end_of(fields: &Fields, c: usize) -> u128
 /// Whether a precinct would have a PID of 2^20 or more.
 pub(crate) fn has_great_pid(fields: &Fields) -> bool
     requires sound { IsSoundFields fields.now }
-    requires few { length fields.now.steps.items ≤ 4 }
+    requires few { length fields.now.steps.items ≤ 16 }
     ensures { result ≡ has_great_pid (fields_head fields.now 0 0 0) }
 {
     for c in 0..fields.steps.len() {

@@ -14,7 +14,7 @@ mod styles;
 mod tiles;
 mod walk;
 
-pub use head::{Head, HeadFault, HeadWhy};
+pub use head::{Head, HeadFault, HeadWhy, MOST_COMPONENTS, PCRL, RPCL};
 pub use plan::{HeadPlan, PlanFault, write_head};
 pub use walk::read_head;
 

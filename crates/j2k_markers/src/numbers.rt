@@ -2,6 +2,7 @@
 ghost use Rattle.std.specs.Prelude.{◌≡◌, ◌<◌, ◌≤◌, ◌+◌, length};
 ghost use Rattle.codestream_model.specs.Bytes.{two_at, four_at};
 ghost use Rattle.codestream_model.specs.Areas.{ceil_div};
+ghost use Rattle.codestream_model.specs.Segments.{stated_length};
 
 use byteorder::{BigEndian, ByteOrder};
 
@@ -19,6 +20,13 @@ pub(crate) fn number_32(bytes: &[u8], at: usize) -> u32
     ensures { result ≡ four_at bytes.now at }
 {
     BigEndian::read_u32(&bytes[at..])
+}
+
+/// The length that a segment with this content states: it counts itself.
+pub(crate) fn stated_length(content: &[u8]) -> usize
+    ensures { result ≡ stated_length content.now }
+{
+    content.len() + 2
 }
 
 /// A quotient, rounded up.

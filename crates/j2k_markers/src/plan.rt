@@ -7,7 +7,7 @@ ghost use Rattle.codestream_model.specs.Segments.{segment_bytes, segments_bytes}
 ghost use Rattle.j2k_markers.specs.Layout.{four_bytes, step_bytes, precinct_byte, siz_content, cod_content, qcd_content, sot_content, plan_segments, plan_bytes, AreSegments, IsHeader};
 ghost use Rattle.j2k_markers.specs.Refusals.{refusal_of};
 
-use crate::head::HeadWhy;
+use crate::head::{HeadWhy, MOST_COMPONENTS};
 use crate::markers::{CAP, COD, QCD, SIZ, SOC, SOD, SOT};
 use crate::walk::read_head;
 use arrayvec::ArrayVec;
@@ -20,7 +20,7 @@ pub struct HeadPlan {
     /// XOsiz, YOsiz, Xsiz and Ysiz.
     pub area: (u32, u32, u32, u32),
     /// XRsiz and YRsiz of each component.
-    pub steps: ArrayVec<(u8, u8), 4>,
+    pub steps: ArrayVec<(u8, u8), MOST_COMPONENTS>,
     /// N_L, the number of decomposition levels.
     pub levels: u8,
     /// xcb and ycb, each at least 2.
@@ -34,6 +34,10 @@ pub struct HeadPlan {
     pub psot: u32,
     /// Whole segments, none of them SOT, that are placed before SOT.
     pub extra: Vec<u8>,
+    /// The progression order, [`crate::RPCL`] or [`crate::PCRL`]; any other is refused.
+    pub order: u8,
+    /// Whether an EPH marker follows each packet header.
+    pub eph: bool,
 }
 
 /// Why a plan isn't written.
@@ -122,7 +126,7 @@ fn put_segment(bytes: &mut Vec<u8>, marker: u16, content: &[u8]) -> Result<(), A
 #[tactic(auto, using(crate::proofs::Lengths::length_steps), unfolding(crate::specs::Layout::siz_content))]
 fn siz_content(alloc: Global, plan: &HeadPlan) -> Result<Vec<u8>, AllocError>
     ensures content { IfOk result (λ v. v.items ≡ siz_content plan.now) }
-    ensures short { IfOk result (λ v. length v.items ≤ 48) }
+    ensures short { IfOk result (λ v. length v.items ≤ 84) }
 {
     let (x0, y0, x1, y1) = plan.area;
     let mut bytes = Vec::new(alloc);
@@ -133,7 +137,7 @@ fn siz_content(alloc: Global, plan: &HeadPlan) -> Result<Vec<u8>, AllocError>
     Ok(bytes)
 }
 
-/// The content of COD: PCRL order, one layer, and the sizes of precincts where there are some.
+/// The content of COD: one layer, and the sizes of precincts where there are some.
 #[tactic(auto, using(crate::proofs::Lengths::length_precincts), unfolding(crate::specs::Layout::cod_content))]
 fn cod_content(alloc: Global, plan: &HeadPlan) -> Result<Vec<u8>, AllocError>
     requires x { 2 ≤ plan.now.block.0 }
@@ -142,10 +146,10 @@ fn cod_content(alloc: Global, plan: &HeadPlan) -> Result<Vec<u8>, AllocError>
     ensures content { IfOk result (λ v. v.items ≡ cod_content plan.now) }
     ensures short { IfOk result (λ v. length v.items ≤ 26) }
 {
-    let sized = u8::from(!plan.precincts.is_empty());
+    let scod = u8::from(!plan.precincts.is_empty()) + if plan.eph { 4 } else { 0 };
     let (x, y) = (plan.block.0 - 2, plan.block.1 - 2);
     let mut bytes = Vec::new(alloc);
-    bytes.extend_from_slice(&[sized, 3, 0, 1, 0, plan.levels, x, y, plan.style, 1])?;
+    bytes.extend_from_slice(&[scod, plan.order, 0, 1, 0, plan.levels, x, y, plan.style, 1])?;
     put_precincts(&mut bytes, &plan.precincts)?;
     Ok(bytes)
 }
@@ -231,7 +235,7 @@ fn layout(alloc: Global, plan: &HeadPlan) -> Result<Vec<u8>, AllocError>
 }
 
 /// Writes a header: SOC; SIZ with one tile from 0 to the end of the image; CAP with HT code-blocks alone; COD
-/// with PCRL order and one layer; QCD with no quantisation; the extra segments; SOT; SOD (T.800 Annex A).
+/// with the plan's order and one layer; QCD with no quantisation; the extra segments; SOT; SOD (T.800 Annex A).
 ///
 /// # Errors
 ///

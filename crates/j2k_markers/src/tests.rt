@@ -1,12 +1,13 @@
 //! Headers and refusals that were worked out by hand, and the headers of two encoders.
 mod headers;
+mod limits;
 mod pairs;
 
 ghost use Rattle.std.specs.Prelude.{◌≡◌, ◌≤◌, []};
 
 use super::*;
 use arrayvec::ArrayVec;
-use headers::{GROK, ONE_PIXEL, OPENJPH, THREE_PRECINCTS};
+use headers::{GROK, GROK_RPCL, ONE_PIXEL, OPENJPH, OPENJPH_RPCL, THREE_PRECINCTS};
 use std::alloc::{AllocError, Global};
 
 /// A header with some bytes of it, those from one place up to another, replaced.
@@ -42,6 +43,11 @@ const fn refused(
     (Change { from, to, put }, HeadFault { at, why })
 }
 
+/// A change with which the header is taken.
+const fn taken(from: usize, to: usize, put: &'static [u8]) -> Change {
+    Change { from, to, put }
+}
+
 /// The first of these changes with which the header of one pixel isn't refused so.
 fn first_other(alloc: Global, cases: &[(Change, HeadFault)]) -> Result<Option<usize>, AllocError> {
     for (row, (change, fault)) in cases.iter().enumerate() {
@@ -57,7 +63,8 @@ fn first_other(alloc: Global, cases: &[(Change, HeadFault)]) -> Result<Option<us
 fn a_faulty_siz_is_refused_at_its_first_fault(rt: HostRuntime) -> Result<(), AllocError> {
     let cases = [
         refused(40, 42, &[0, 0], 2, HeadWhy::Components),
-        refused(40, 42, &[0, 5], 2, HeadWhy::Components),
+        refused(40, 42, &[0, 17], 2, HeadWhy::Components),
+        refused(40, 42, &[0, 16], 2, HeadWhy::Length),
         refused(40, 42, &[0, 2], 2, HeadWhy::Length),
         refused(6, 8, &[0xBF, 0xFF], 2, HeadWhy::Rsiz),
         refused(8, 12, &[0x80, 0, 0, 0], 2, HeadWhy::Area),
@@ -125,8 +132,10 @@ fn a_faulty_cod_is_refused_at_its_first_fault(rt: HostRuntime) -> Result<(), All
     let cases = [
         refused(59, 60, &[8], 55, HeadWhy::Style),
         refused(59, 60, &[2], 55, HeadWhy::Sop),
-        refused(59, 60, &[4], 55, HeadWhy::Eph),
-        refused(60, 61, &[2], 55, HeadWhy::Order),
+        refused(59, 60, &[6], 55, HeadWhy::Sop),
+        refused(60, 61, &[0], 55, HeadWhy::Order),
+        refused(60, 61, &[1], 55, HeadWhy::Order),
+        refused(60, 61, &[4], 55, HeadWhy::Order),
         refused(61, 63, &[0, 2], 55, HeadWhy::Layers),
         refused(64, 65, &[16], 55, HeadWhy::Levels),
         refused(59, 60, &[1], 55, HeadWhy::Length),
@@ -151,7 +160,8 @@ fn a_faulty_cod_is_refused_at_its_first_fault(rt: HostRuntime) -> Result<(), All
             HeadWhy::Precinct,
         ),
         // two faults: the first of the order is the answer
-        refused(59, 61, &[6, 2], 55, HeadWhy::Sop),
+        refused(59, 61, &[6, 1], 55, HeadWhy::Sop),
+        refused(60, 63, &[1, 0, 2], 55, HeadWhy::Order),
         refused(59, 65, &[1, 3, 0, 1, 0, 16], 55, HeadWhy::Levels),
     ];
     assert_eq!(rt; first_other(rt.alloc(), &cases)?, None);
@@ -281,21 +291,47 @@ fn a_header_of_more_than_8192_bytes_is_too_long(rt: HostRuntime) {
     }
 }
 
-/// SIZ, CAP, COD, QCD, SOT and SOD of an image of 1,024 by 1,024 with precincts of 1 by 1.
-fn million(alloc: Global, components: u8) -> Result<Vec<u8>, AllocError>
-    requires { components ≤ 4 }
+/// An image of one resolution with precincts of 1 by 1.
+#[derive(Clone, Copy)]
+struct Dots {
+    components: u8,
+    wide: u32,
+    high: u32,
+}
+
+/// Its header. SOT is at 76 and three bytes more for each component after the first.
+fn header_of_dots(alloc: Global, image: Dots) -> Result<Vec<u8>, AllocError>
+    requires { image.components ≤ 16 }
 {
     let mut bytes = Vec::new(alloc);
+    let (wide, high) = (image.wide.to_be_bytes(), image.high.to_be_bytes());
+    let components = image.components;
     bytes.extend_from_slice(&[0xFF, 0x4F, 0xFF, 0x51, 0, 38 + 3 * components, 0x40, 0])?;
-    bytes.extend_from_slice(&[0, 0, 4, 0, 0, 0, 4, 0, 0, 0, 0, 0, 0, 0, 0, 0])?;
-    bytes.extend_from_slice(&[
-        0, 0, 4, 0, 0, 0, 4, 0, 0, 0, 0, 0, 0, 0, 0, 0, 0, components,
-    ])?;
+    bytes.extend_from_slice(&wide)?;
+    bytes.extend_from_slice(&high)?;
+    bytes.extend_from_slice(&[0, 0, 0, 0, 0, 0, 0, 0])?;
+    bytes.extend_from_slice(&wide)?;
+    bytes.extend_from_slice(&high)?;
+    bytes.extend_from_slice(&[0, 0, 0, 0, 0, 0, 0, 0, 0, components])?;
     for _ in 0..components {
         bytes.extend_from_slice(&[7, 1, 1])?;
     }
     bytes.extend_from_slice(&THREE_PRECINCTS[45..])?;
     Ok(bytes)
+}
+
+/// The header of an image of 1,024 by 1,024 with precincts of 1 by 1.
+fn million(alloc: Global, components: u8) -> Result<Vec<u8>, AllocError>
+    requires { components ≤ 16 }
+{
+    header_of_dots(
+        alloc,
+        Dots {
+            components,
+            wide: 1024,
+            high: 1024,
+        },
+    )
 }
 
 #[test]
@@ -306,6 +342,20 @@ fn a_pid_of_2_to_the_20_is_refused_at_sot(rt: HostRuntime) -> Result<(), AllocEr
         why: HeadWhy::Ids,
     };
     assert_eq!(rt; read_head(&million(rt.alloc(), 2)?).err(), Some(fault));
+    // 16 components of 2^60 + 2^15 precincts: the least number past all is 2^64 + 2^19
+    let most = Dots {
+        components: 16,
+        wide: 1_073_774_592,
+        high: 1_073_709_057,
+    };
+    let fault = HeadFault {
+        at: 121,
+        why: HeadWhy::Ids,
+    };
+    assert_eq!(rt;
+        read_head(&header_of_dots(rt.alloc(), most)?).err(),
+        Some(fault)
+    );
     Ok(())
 }
 
@@ -317,6 +367,8 @@ struct Values {
     levels: u8,
     block: (u8, u8),
     precincts: &'static [(u8, u8)],
+    order: u8,
+    eph: bool,
     psot: u32,
     sot: u32,
     length: u32,
@@ -342,6 +394,8 @@ fn says(bytes: &[u8], values: &Values) -> bool {
         && head.levels() == values.levels
         && head.block() == values.block
         && usize::from(head.levels()) + 1 == values.precincts.len()
+        && head.order() == values.order
+        && head.eph() == values.eph
         && head.psot() == values.psot
         && head.sot() == values.sot
         && head.length() == values.length
@@ -354,6 +408,8 @@ const ONE_PIXEL_VALUES: Values = Values {
     levels: 0,
     block: (6, 6),
     precincts: &[(15, 15)],
+    order: PCRL,
+    eph: false,
     psot: 0,
     sot: 75,
     length: 89,
@@ -374,6 +430,25 @@ fn small_headers_are_read(rt: HostRuntime) -> Result<(), AllocError> {
         ..ONE_PIXEL_VALUES
     };
     assert!(rt; says(&THREE_PRECINCTS, &values));
+    Ok(())
+}
+
+#[test]
+fn the_order_and_eph_are_read_apart(rt: HostRuntime) -> Result<(), AllocError> {
+    for (scod, order) in [(0u8, RPCL), (4, PCRL), (4, RPCL)] {
+        let mut header = ONE_PIXEL;
+        header[59] = scod;
+        header[60] = order;
+        let values = Values {
+            order,
+            eph: scod == 4,
+            ..ONE_PIXEL_VALUES
+        };
+        assert!(rt;
+            says(&header, &values),
+            "with Scod {scod} and order {order}"
+        );
+    }
     Ok(())
 }
 
@@ -424,30 +499,55 @@ fn the_sums_of_tiles_are_exact(rt: HostRuntime) -> Result<(), AllocError> {
     Ok(())
 }
 
+/// The values of OpenJPH's header.
+const OPENJPH_VALUES: Values = Values {
+    area: (0, 0, 64, 48),
+    steps: &[(1, 1), (1, 1), (1, 1)],
+    levels: 5,
+    block: (6, 6),
+    precincts: &[(15, 15), (15, 15), (15, 15), (15, 15), (15, 15), (15, 15)],
+    order: PCRL,
+    eph: false,
+    psot: 3061,
+    sot: 136,
+    length: 150,
+};
+
 #[test]
 fn the_headers_of_two_encoders_are_read(rt: HostRuntime) {
-    let openjph = Values {
-        area: (0, 0, 64, 48),
-        steps: &[(1, 1), (1, 1), (1, 1)],
-        levels: 5,
-        block: (6, 6),
-        precincts: &[(15, 15), (15, 15), (15, 15), (15, 15), (15, 15), (15, 15)],
-        psot: 3061,
-        sot: 136,
-        length: 150,
-    };
-    assert!(rt; says(&OPENJPH, &openjph));
     let grok = Values {
         area: (3, 5, 67, 53),
-        steps: &[(1, 1), (1, 1), (1, 1)],
         levels: 3,
         block: (4, 4),
         precincts: &[(1, 1), (2, 2), (3, 3), (4, 4)],
         psot: 7084,
         sot: 130,
         length: 144,
+        ..OPENJPH_VALUES
     };
-    assert!(rt; says(&GROK, &grok));
+    let openjph_rpcl = Values {
+        order: RPCL,
+        ..OPENJPH_VALUES
+    };
+    let grok_rpcl = Values {
+        levels: 2,
+        precincts: &[(15, 15), (15, 15), (15, 15)],
+        order: RPCL,
+        eph: true,
+        psot: 4067,
+        sot: 123,
+        length: 137,
+        ..OPENJPH_VALUES
+    };
+    let cases: [(&[u8], Values); 4] = [
+        (&OPENJPH, OPENJPH_VALUES),
+        (&GROK, grok),
+        (&OPENJPH_RPCL, openjph_rpcl),
+        (&GROK_RPCL, grok_rpcl),
+    ];
+    for (row, (header, values)) in cases.iter().enumerate() {
+        assert!(rt; says(header, values), "in row {row}");
+    }
 }
 
 /// The plan of the header of one pixel.
@@ -468,108 +568,44 @@ fn one_pixel(alloc: Global) -> HeadPlan
         precincts: ArrayVec::new(),
         psot: 0,
         extra: Vec::new(alloc),
+        order: PCRL,
+        eph: false,
     }
 }
 
 #[test]
 fn a_plan_is_written_as_its_header(rt: HostRuntime) -> Result<(), PlanFault> {
-    let plan = one_pixel(rt.alloc());
-    let bytes = write_head(rt.alloc(), &plan)?;
-    assert_eq!(rt; bytes.as_slice(), ONE_PIXEL.as_slice());
+    for (scod, order) in [(0u8, PCRL), (0, RPCL), (4, PCRL), (4, RPCL)] {
+        let mut header = ONE_PIXEL;
+        header[59] = scod;
+        header[60] = order;
+        let mut plan = one_pixel(rt.alloc());
+        plan.order = order;
+        plan.eph = scod == 4;
+        let bytes = write_head(rt.alloc(), &plan)?;
+        assert_eq!(rt; bytes.as_slice(), header.as_slice());
+    }
     Ok(())
 }
 
 #[test]
 fn a_plan_that_the_reader_refuses_is_refused_so(rt: HostRuntime) {
-    let mut plan = one_pixel(rt.alloc());
-    plan.levels = 16;
-    let answer = write_head(rt.alloc(), &plan);
-    assert_eq!(rt; answer.err(), Some(PlanFault::Head(HeadWhy::Levels)));
-}
-
-/// A change with which the header is taken.
-const fn taken(from: usize, to: usize, put: &'static [u8]) -> Change {
-    Change { from, to, put }
-}
-
-#[test]
-fn the_least_and_the_greatest_values_are_taken(rt: HostRuntime) -> Result<(), AllocError> {
+    // levels, order, components
     let cases = [
-        taken(6, 8, &[0xFF, 0xFF]),
-        taken(
-            8,
-            32,
-            &[
-                0x7F, 0xFF, 0xFF, 0xFF, 0, 0, 0, 1, 0, 0, 0, 0, 0, 0, 0, 0, 0x7F, 0xFF, 0xFF, 0xFF,
-                0, 0, 0, 1,
-            ],
-        ),
-        // the greatest height, and the last place of the greatest image alone
-        taken(
-            12,
-            32,
-            &[
-                0x7F, 0xFF, 0xFF, 0xFF, 0, 0, 0, 0, 0, 0, 0, 0, 0, 0, 0, 1, 0x7F, 0xFF, 0xFF, 0xFF,
-            ],
-        ),
-        taken(
-            8,
-            40,
-            &[
-                0x7F, 0xFF, 0xFF, 0xFF, 0x7F, 0xFF, 0xFF, 0xFF, 0x7F, 0xFF, 0xFF, 0xFE, 0x7F, 0xFF,
-                0xFF, 0xFE, 0, 0, 0, 1, 0, 0, 0, 1, 0x7F, 0xFF, 0xFF, 0xFE, 0x7F, 0xFF, 0xFF, 0xFE,
-            ],
-        ),
-        taken(
-            4,
-            45,
-            &[
-                0, 0x32, 0x40, 0, 0, 0, 0, 1, 0, 0, 0, 1, 0, 0, 0, 0, 0, 0, 0, 0, 0, 0, 0, 1, 0, 0,
-                0, 1, 0, 0, 0, 0, 0, 0, 0, 0, 0, 4, 7, 1, 1, 7, 1, 1, 7, 1, 1, 7, 1, 1,
-            ],
-        ),
-        taken(43, 45, &[0xFF, 0xFF]),
-        taken(53, 55, &[0x1F, 0xFF]),
-        taken(53, 55, &[0, 0]),
-        taken(
-            64,
-            75,
-            &[
-                0x0F, 4, 4, 0x40, 1, 0xFF, 0x5C, 0, 0x31, 0x40, 0x48, 0x48, 0x48, 0x48, 0x48, 0x48,
-                0x48, 0x48, 0x48, 0x48, 0x48, 0x48, 0x48, 0x48, 0x48, 0x48, 0x48, 0x48, 0x48, 0x48,
-                0x48, 0x48, 0x48, 0x48, 0x48, 0x48, 0x48, 0x48, 0x48, 0x48, 0x48, 0x48, 0x48, 0x48,
-                0x48, 0x48, 0x48, 0x48, 0x48, 0x48, 0x48, 0x48, 0x48, 0x48, 0x48, 0x48,
-            ],
-        ),
-        // precincts of 1 by 1 and of 2^15 by 2^15 at resolution 0, and of 2 by 2 and of 2^15 by 2^15 above it
-        taken(
-            57,
-            75,
-            &[
-                0, 14, 1, 3, 0, 1, 0, 1, 4, 4, 0x40, 1, 0x00, 0x11, 0xFF, 0x5C, 0, 7, 0x40, 0x48,
-                0x48, 0x48, 0x48,
-            ],
-        ),
-        taken(
-            57,
-            75,
-            &[
-                0, 14, 1, 3, 0, 1, 0, 1, 4, 4, 0x40, 1, 0xFF, 0xFF, 0xFF, 0x5C, 0, 7, 0x40, 0x48,
-                0x48, 0x48, 0x48,
-            ],
-        ),
-        taken(65, 67, &[8, 0]),
-        taken(65, 67, &[0, 8]),
-        taken(65, 67, &[0, 0]),
-        taken(67, 68, &[0x48]),
-        taken(71, 75, &[0, 5, 0x41, 0x48, 0x48]),
-        taken(71, 75, &[0, 5, 0x42, 0x48, 0x48]),
-        taken(81, 85, &[0xFF, 0xFF, 0xFF, 0xFF]),
-        taken(86, 87, &[0]),
+        (16, PCRL, 1, HeadWhy::Levels),
+        (0, 1, 1, HeadWhy::Order),
+        (0, 4, 1, HeadWhy::Order),
+        (16, 0, 1, HeadWhy::Order),
+        (0, 1, 0, HeadWhy::Length),
     ];
-    for (row, change) in cases.iter().enumerate() {
-        let bytes = changed(rt.alloc(), &ONE_PIXEL, change)?;
-        assert!(rt; read_head(&bytes).is_ok(), "in row {row}");
+    for (levels, order, components, why) in cases {
+        let mut plan = one_pixel(rt.alloc());
+        plan.levels = levels;
+        plan.order = order;
+        if components == 0 {
+            plan.steps.clear();
+        }
+        let answer = write_head(rt.alloc(), &plan);
+        assert_eq!(rt; answer.err(), Some(PlanFault::Head(why)));
     }
-    Ok(())
 }

@@ -3,19 +3,59 @@
 //!
 //! SOT has Isot in two bytes; Psot in four; TPsot; TNsot. QCD has Sqcd, whose lower five bits are the style,
 //! and the step values.
-ghost use Rattle.std.specs.Prelude.{◌≡◌, ◌≤◌, ◌+◌, ◌++◌, ℕ, length};
+ghost use Rattle.std.specs.Prelude.{◌≡◌, ◌≤◌, ◌+◌, ℕ, [], length, take, drop};
 ghost use Rattle.codestream_model.specs.HeadRefusals.{first_refusal};
-ghost use Rattle.codestream_model.specs.SegmentTests.{cod_levels, quant_length};
+ghost use Rattle.codestream_model.specs.SegmentTests.{isot, sot_psot, tpsot, tnsot, quant_style, quant_length};
+ghost use Rattle.j2k_markers.specs.Before.{sot_tests};
 ghost use Rattle.j2k_markers.specs.Fields.{fields_head, head_from, IsSoundFields};
-ghost use Rattle.j2k_markers.specs.Parts.{one_part_tests, quant_tests, number_tests};
 ghost use Rattle.j2k_markers.specs.Refusals.{judged};
 ghost use Rattle.j2k_markers.specs.Sound.{IsSoundSiz, IsSoundCod};
 
-use crate::components::steps_of;
+use crate::components::{siz_steps, xosiz, xsiz, yosiz, ysiz};
 use crate::head::{Fields, HeadWhy};
 use crate::identifiers::has_great_pid;
-use crate::numbers::{number_16, number_32};
-use crate::styles::precincts_of;
+use crate::numbers::{number_16, number_32, stated_length};
+use crate::styles::{cod_block, cod_levels, cod_order, cod_precincts, has_eph};
+
+/// Isot, the number of the tile.
+fn isot(content: &[u8]) -> u16
+    requires { 8 ≤ length content.now }
+    ensures { result ≡ isot content.now }
+{
+    number_16(content, 0)
+}
+
+/// Psot, the length of the tile-part.
+pub(crate) fn sot_psot(content: &[u8]) -> u32
+    requires { 8 ≤ length content.now }
+    ensures { result ≡ sot_psot content.now }
+{
+    number_32(content, 2)
+}
+
+/// TPsot, the number of the tile-part.
+fn tpsot(content: &[u8]) -> u8
+    requires { 8 ≤ length content.now }
+    ensures { result ≡ tpsot content.now }
+{
+    content[6]
+}
+
+/// TNsot, the number of tile-parts, or 0.
+fn tnsot(content: &[u8]) -> u8
+    requires { 8 ≤ length content.now }
+    ensures { result ≡ tnsot content.now }
+{
+    content[7]
+}
+
+/// The style of the quantisation, the lower five bits of Sqcd.
+fn quant_style(content: &[u8]) -> u8
+    requires { 1 ≤ length content.now }
+    ensures { result ≡ quant_style content.now }
+{
+    content[0] % 32
+}
 
 /// What SIZ and COD with these contents say.
 pub(crate) fn fields_of(siz: &[u8], cod: &[u8]) -> Fields
@@ -23,32 +63,35 @@ pub(crate) fn fields_of(siz: &[u8], cod: &[u8]) -> Fields
     requires cod { IsSoundCod cod.now }
     ensures values { (psot sot n : ℕ) → fields_head result psot sot n ≡ head_from siz.now cod.now psot sot n }
     ensures sound { IsSoundFields result }
-    ensures few { length result.steps.items ≤ 4 }
+    ensures few { length result.steps.items ≤ 16 }
 {
     Fields {
-        x0: number_32(siz, 10),
-        y0: number_32(siz, 14),
-        x1: number_32(siz, 2),
-        y1: number_32(siz, 6),
-        steps: steps_of(siz),
-        levels: cod[5],
-        block: (cod[6] + 2, cod[7] + 2),
-        precincts: precincts_of(cod),
+        x0: xosiz(siz),
+        y0: yosiz(siz),
+        x1: xsiz(siz),
+        y1: ysiz(siz),
+        steps: siz_steps(siz),
+        levels: cod_levels(cod),
+        block: cod_block(cod),
+        precincts: cod_precincts(cod),
+        order: cod_order(cod),
+        eph: has_eph(cod),
     }
 }
 
 /// The conditions on the tile-part: the first of one at most, of the first tile.
+#[tactic(auto, unfolding(codestream_model::specs::SegmentTests::tile_tests))]
 fn judge_part(content: &[u8]) -> Result<(), HeadWhy>
     requires { length content.now ≡ 8 }
-    ensures { result ≡ judged (first_refusal (one_part_tests content.now)) }
+    ensures { result ≡ judged (first_refusal (take 3 (sot_tests [] [] [] content.now))) }
 {
-    if number_16(content, 0) != 0 {
+    if isot(content) != 0 {
         return Err(HeadWhy::TileHeader);
     }
-    if content[6] != 0 {
+    if tpsot(content) != 0 {
         return Err(HeadWhy::TileHeader);
     }
-    if content[7] > 1 {
+    if tnsot(content) > 1 {
         return Err(HeadWhy::TileHeader);
     }
     Ok(())
@@ -66,15 +109,17 @@ fn quant_length(style: u8, levels: u8) -> usize
 }
 
 /// The conditions on the quantisation.
-fn judge_quant(qcd: &[u8], levels: u8) -> Result<(), HeadWhy>
-    requires { 1 ≤ length qcd.now }
-    ensures { result ≡ judged (first_refusal (quant_tests qcd.now levels)) }
+#[tactic(auto, unfolding(codestream_model::specs::SegmentTests::tile_tests))]
+fn judge_quant(qcd: &[u8], cod: &[u8]) -> Result<(), HeadWhy>
+    requires qcd { 1 ≤ length qcd.now }
+    requires cod { 10 ≤ length cod.now }
+    ensures { result ≡ judged (first_refusal (take 2 (drop 3 (sot_tests [] cod.now qcd.now [])))) }
 {
-    let style = qcd[0] % 32;
+    let style = quant_style(qcd);
     if style > 2 {
         return Err(HeadWhy::Quant);
     }
-    if qcd.len() + 2 != quant_length(style, levels) {
+    if stated_length(qcd) != quant_length(style, cod_levels(cod)) {
         return Err(HeadWhy::Quant);
     }
     Ok(())
@@ -84,7 +129,7 @@ fn judge_quant(qcd: &[u8], levels: u8) -> Result<(), HeadWhy>
 fn judge_numbers(siz: &[u8], cod: &[u8]) -> Result<(), HeadWhy>
     requires siz { IsSoundSiz siz.now }
     requires cod { IsSoundCod cod.now }
-    ensures { result ≡ judged (first_refusal (number_tests (head_from siz.now cod.now 0 0 0))) }
+    ensures { result ≡ judged (first_refusal (drop 5 (sot_tests siz.now cod.now [] []))) }
 {
     if has_great_pid(&fields_of(siz, cod)) {
         return Err(HeadWhy::Ids);
@@ -98,9 +143,9 @@ pub(crate) fn judge_tile(siz: &[u8], cod: &[u8], qcd: &[u8], content: &[u8]) -> 
     requires cod { IsSoundCod cod.now }
     requires qcd { 1 ≤ length qcd.now }
     requires eight { length content.now ≡ 8 }
-    ensures { result ≡ judged (first_refusal (one_part_tests content.now ++ (quant_tests qcd.now (cod_levels cod.now) ++ number_tests (head_from siz.now cod.now 0 0 0)))) }
+    ensures { result ≡ judged (first_refusal (sot_tests siz.now cod.now qcd.now content.now)) }
 {
     judge_part(content)?;
-    judge_quant(qcd, cod[5])?;
+    judge_quant(qcd, cod)?;
     judge_numbers(siz, cod)
 }

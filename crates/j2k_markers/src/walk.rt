@@ -13,9 +13,9 @@ ghost use Rattle.j2k_markers.specs.Walking.{ReadsTile};
 
 use crate::head::{Head, HeadFault, HeadWhy};
 use crate::markers::{SOC, SOT};
-use crate::numbers::{number_16, number_32};
+use crate::numbers::number_16;
 use crate::segments::{Before, REACH, Turn, fault, next_segment, next_turn, rest_behind};
-use crate::tiles::fields_of;
+use crate::tiles::{fields_of, sot_psot};
 
 /// The head of a header that ends with the SOD behind what has been read.
 fn whole_head(bytes: &[u8], before: &Before, tile: &[u8], sot: usize) -> Head
@@ -28,7 +28,7 @@ fn whole_head(bytes: &[u8], before: &Before, tile: &[u8], sot: usize) -> Head
     ensures { head_of bytes.now ≡ Ok result }
 {
     let fields = fields_of(before.siz, before.cod);
-    Head::new(fields, number_32(tile, 2), sot as u32, before.at as u32 + 2)
+    Head::new(fields, sot_psot(tile), sot as u32, before.at as u32 + 2)
 }
 
 /// The walk behind SOT, whose content and place are given.

@@ -5,7 +5,7 @@ use Rattle.std.proofs.lemmas.Bool.Decides.{leb_tells, eqb_tells}
 use Rattle.std.proofs.lemmas.List.{length-append, length-take, length-drop, take-append-drop, take_all}
 use Rattle.codestream_model.specs.Values as values
 use Rattle.codestream_model.specs.StuffedBits.{number_bits, width_after, carried_after, carried, sound_after, packed_bits, bytes_of_bits}
-use Rattle.codestream_model.specs.HeaderPieces.{HeaderRefusal, Stuffed, ZeroPlanes, Passes, LengthBits, CleanupShort, CleanupLong, RefineLong, TooLong}
+use Rattle.codestream_model.specs.HeaderPieces.{HeaderRefusal, Stuffed, ZeroPlanes, Passes, LengthBits, CleanupShort, CleanupLong, RefineLong, TooLong, NoEph}
 use Rattle.codestream_model.specs.PacketHeader.{HaveOwnBands}
 use Rattle.codestream_model.specs.PacketHeaderReading.{HeaderReading, Done, Need, Bad, Read, Got, AtEnd, Refused, read_bits, end_by, closed_by, answer_of, header_of}
 use Rattle.codestream_model.proofs.BitLemmas.{number_bits-length}
@@ -185,6 +185,7 @@ refusal_of reason.CleanupShort = CleanupShort
 refusal_of reason.CleanupLong = CleanupLong
 refusal_of reason.RefineLong = RefineLong
 refusal_of reason.TooLong = TooLong
+refusal_of reason.NoEph = NoEph
 
 reason_back : (why : HeaderRefusal) → refusal_of (why_of why) ≡ why
 reason_back Stuffed = refl
@@ -195,6 +196,7 @@ reason_back CleanupShort = refl
 reason_back CleanupLong = refl
 reason_back RefineLong = refl
 reason_back TooLong = refl
+reason_back NoEph = refl
 
 same_reason : (x y : HeaderWhy) → out.Bad x ≡ out.Bad y → x ≡ y
 same_reason x y e = cc

@@ -8,6 +8,7 @@ pub mod SeatSteps
 pub mod SeatRuns
 pub mod GridRuns
 pub mod HeaderRuns
+pub mod Markers
 pub mod PutSteps
 pub mod Widths
 pub mod SeatWalks

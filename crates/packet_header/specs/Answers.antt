@@ -1,7 +1,7 @@
 -- The answers of the code as those of the definitions.
 use Rattle.std.specs.Prelude.{◌≡◌, ℕ, Bool, List, map, Option, Some, None, Result, Ok, Err, nat_lt, if◌then◌else◌}
 use Rattle.codestream_model.specs.Values as values
-use Rattle.codestream_model.specs.HeaderPieces.{HeaderRefusal, Stuffed, ZeroPlanes, Passes, LengthBits, CleanupShort, CleanupLong, RefineLong, TooLong}
+use Rattle.codestream_model.specs.HeaderPieces.{HeaderRefusal, Stuffed, ZeroPlanes, Passes, LengthBits, CleanupShort, CleanupLong, RefineLong, TooLong, NoEph}
 use Rattle.codestream_model.specs.PacketHeaderReading.{HeaderReading, Done, Need, Bad}
 use Rattle.stuffed_bits.specs.declared.bit_in.BitOut.{BitOut}
 use Rattle.stuffed_bits.specs.declared.bit_in.BitOut.TheVariants as bits
@@ -36,6 +36,7 @@ why_of CleanupShort = why.CleanupShort
 why_of CleanupLong = why.CleanupLong
 why_of RefineLong = why.RefineLong
 why_of TooLong = why.TooLong
+why_of NoEph = why.NoEph
 
 -- what stops a reader where no bit is left, by whether the stuffing is broken there
 abbrev pub stop_at : Option ℕ → Stop

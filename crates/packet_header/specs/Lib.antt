@@ -6,6 +6,7 @@ pub mod Closing
 pub mod Seats
 pub mod Trees
 pub mod Headers
+pub mod Marked
 pub mod Puts
 pub mod Queues
 pub mod SeatsWritten

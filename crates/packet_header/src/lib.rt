@@ -1,8 +1,8 @@
 //! Packet headers (T.800 B.10, with the segments of T.814): the code-blocks that a packet includes, how many bit-planes and
 //! coding passes each has, and how many bytes their segments take.
 //!
-//! `HeaderReader` reads the header at the front of bytes. A header is as long as it says itself: it ends where the last
-//! code-block's values do, filled up to a whole byte. `write_header` writes the header of code-blocks: of all headers that say them
+//! `HeaderReader` reads the header at the start of bytes, and the EPH after it where the main header asks for one. A header is as
+//! long as it says itself: it ends where the last code-block's values do, filled up to a whole byte. `write_header` writes the header of code-blocks: of all headers that say them
 //! the one with the least labels in its tag trees and the least Lblocks.
 #![tactic(auto)]
 
@@ -12,6 +12,7 @@ mod fault;
 mod filling;
 mod grids;
 mod judging;
+mod marker;
 mod pieces;
 mod queue;
 mod reader;

@@ -2,15 +2,18 @@
 ghost use Rattle.std.specs.Prelude.{◌≡◌, ◌≤◌, ◌++◌, ◌↔◌, ℕ, List, map, take, length, IfOk, Result};
 ghost use Rattle.codestream_model.specs.Values as values;
 ghost use Rattle.codestream_model.specs.Packet.{block_count};
-ghost use Rattle.codestream_model.specs.PacketHeader.{HaveOwnBands, SpellsHeader, RefusesHeader, NeedsHeaderBytes};
+ghost use Rattle.codestream_model.specs.PacketHeader.{HaveOwnBands};
 ghost use Rattle.codestream_model.specs.HeaderPieces.{HeaderRefusal};
 ghost use Rattle.codestream_model.specs.PacketHeaderReading.{header_of};
+ghost use Rattle.codestream_model.specs.MarkedHeader.{SpellsMarkedHeader, RefusesMarkedHeader, NeedsMarkedHeaderBytes, marked_header_of};
 ghost use Rattle.precinct_geometry.specs.Spans.{grid_of};
 ghost use Rattle.packet_header.specs.Answers.{why_of, block_of, Tells};
 ghost use Rattle.packet_header.specs.Headers.{out_of};
+ghost use Rattle.packet_header.specs.Marked.{EndsWithin};
 
 use crate::block::Block;
 use crate::grids::TagTrees;
+use crate::marker::marked;
 use crate::refusal::{HeaderOut, LONGEST, Stop};
 use precinct_geometry::Bands;
 use std::alloc::{AllocError, Global};
@@ -70,21 +73,13 @@ impl HeaderReader {
         })
     }
 
-    /// Reads the header at the front of bytes (T.800 B.10), of a precinct whose grids of code-blocks are `bands`: no two of the same
-    /// band, and no more code-blocks than there is room for.
-    ///
-    /// `Done` comes exactly where the bytes begin with a header of at most 65,536 bytes, whatever follows it; `Bad` exactly where
-    /// they are refused for this reason, by a bit within their first 65,536 bytes or since a further byte is needed; and `Need`
-    /// exactly where they end before a header does, and before it is refused.
-    pub fn read(&mut self, bands: &Bands, bytes: &[u8]) -> HeaderOut
+    /// Reads the header at the start of bytes, and not its EPH.
+    fn read_header(&mut self, bands: &Bands, bytes: &[u8]) -> HeaderOut
         requires own_bands { HaveOwnBands (map grid_of bands.now.items) }
         requires room { block_count (map grid_of bands.now.items) ≤ self.old.room }
         ensures room { self.new.room ≡ self.old.room }
         ensures judged { Tells (header_of (map grid_of bands.now.items) bytes.now) result self.new.blocks }
-        ensures found { (used : ℕ) → result ≡ HeaderOut.Done used → SpellsHeader (map grid_of bands.now.items) (map block_of self.new.blocks) (take used bytes.now) }
-        ensures only { (blocks : List values.Block) (header more : List ℕ) → SpellsHeader (map grid_of bands.now.items) blocks header → bytes.now ≡ header ++ more → (result ≡ HeaderOut.Done (length header)) × (map block_of self.new.blocks ≡ blocks) }
-        ensures refused { (why : HeaderRefusal) → (result ≡ HeaderOut.Bad (why_of why)) ↔ RefusesHeader (map grid_of bands.now.items) bytes.now why }
-        ensures needs { (result ≡ HeaderOut.Need) ↔ NeedsHeaderBytes (map grid_of bands.now.items) bytes.now }
+        ensures within { EndsWithin result bytes.now }
     {
         let front = &bytes[..bytes.len().min(LONGEST)];
         self.blocks.clear();
@@ -92,6 +87,27 @@ impl HeaderReader {
             .trees
             .read_header(bands.as_slice(), front, &mut self.blocks);
         answer(bytes.len(), read)
+    }
+
+    /// Reads the header at the start of bytes (T.800 B.10) and, where `eph` is set, the EPH after it, of a precinct whose grids of
+    /// code-blocks are `bands`: no two of the same band, and no more code-blocks than there is room for.
+    ///
+    /// `Done` comes exactly where the bytes begin with a header of at most 65,536 bytes and its EPH, whatever follows; `Bad` exactly
+    /// where they are refused for this reason, by a bit within their first 65,536 bytes, since a further byte is needed, or since
+    /// other bytes than EPH follow; and `Need` exactly where they end before the header or its EPH does, and before they are
+    /// refused.
+    pub fn read(&mut self, bands: &Bands, eph: bool, bytes: &[u8]) -> HeaderOut
+        requires own_bands { HaveOwnBands (map grid_of bands.now.items) }
+        requires room { block_count (map grid_of bands.now.items) ≤ self.old.room }
+        ensures room { self.new.room ≡ self.old.room }
+        ensures judged { Tells (marked_header_of (map grid_of bands.now.items) eph bytes.now) result self.new.blocks }
+        ensures found { (used : ℕ) → result ≡ HeaderOut.Done used → SpellsMarkedHeader (map grid_of bands.now.items) eph (map block_of self.new.blocks) (take used bytes.now) }
+        ensures only { (blocks : List values.Block) (header more : List ℕ) → SpellsMarkedHeader (map grid_of bands.now.items) eph blocks header → bytes.now ≡ header ++ more → (result ≡ HeaderOut.Done (length header)) × (map block_of self.new.blocks ≡ blocks) }
+        ensures refused { (why : HeaderRefusal) → (result ≡ HeaderOut.Bad (why_of why)) ↔ RefusesMarkedHeader (map grid_of bands.now.items) eph bytes.now why }
+        ensures needs { (result ≡ HeaderOut.Need) ↔ NeedsMarkedHeaderBytes (map grid_of bands.now.items) eph bytes.now }
+    {
+        let header = self.read_header(bands, bytes);
+        marked(header, eph, bytes)
     }
 
     /// The code-blocks that the header includes, in header order; after `Done`.

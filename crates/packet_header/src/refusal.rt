@@ -21,14 +21,16 @@ pub enum HeaderWhy {
     ZeroPlanes,
     /// A byte past the 65,536th is needed.
     TooLong,
+    /// The bytes after the header aren't EPH (T.800 A.8.2), which the main header asks for.
+    NoEph,
 }
 
 /// What is read of the bytes at hand.
 #[derive(Clone, Copy, Debug, PartialEq, Eq)]
 pub enum HeaderOut {
-    /// The header ended after so many bytes.
+    /// The header, with the EPH after it where it is asked for, has this many bytes.
     Done(usize),
-    /// The bytes ended before the header did, and before the deciding bit of any refusal.
+    /// The bytes end before the header or its EPH does, and before the deciding bit of any refusal.
     Need,
     /// The bytes are refused.
     Bad(HeaderWhy),

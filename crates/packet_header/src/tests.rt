@@ -94,7 +94,7 @@ fn first_other(alloc: Global, cases: &[Case]) -> Result<Option<usize>, AllocErro
     let mut reader = HeaderReader::reserve(alloc, 65_536)?;
     for (row, case) in cases.iter().enumerate() {
         let bands = lowest(u32::from(case.cols), u32::from(case.rows));
-        let out = reader.read(&bands, case.bytes);
+        let out = reader.read(&bands, false, case.bytes);
         let same_blocks = matches!(out, HeaderOut::Done(_)) && reader.blocks() == case.blocks;
         if out != case.out || !(same_blocks || case.blocks.is_empty()) {
             return Ok(Some(row));
@@ -279,12 +279,13 @@ fn the_greatest_values_are_read(rt: HostRuntime) -> Result<(), AllocError> {
 #[test]
 fn each_band_has_trees_of_its_own(rt: HostRuntime) -> Result<(), AllocError> {
     let mut reader = HeaderReader::reserve(rt.alloc(), 5)?;
-    let out = reader.read(&higher((0, 0), (1, 1), (0, 0)), &[0xD1, 0x80]);
+    let out = reader.read(&higher((0, 0), (1, 1), (0, 0)), false, &[0xD1, 0x80]);
     assert_eq!(rt; out, HeaderOut::Done(2));
     let below = block!(2, 0, 0, 1, 1, 3, 0);
     assert_eq!(rt; reader.blocks(), [below].as_slice());
     let out = reader.read(
         &higher((2, 1), (1, 2), (1, 1)),
+        false,
         &[0xD1, 0x97, 0xEF, 0x64, 0x79, 0x0E, 0x53, 0x1A, 0x20],
     );
     assert_eq!(rt; out, HeaderOut::Done(9));
@@ -307,12 +308,12 @@ fn is_written(alloc: Global, bands: &Bands, blocks: &[Block], header: &[u8]) -> 
     requires few { block_count (map grid_of bands.now.items) ≤ 65536 }
 {
     let mut buf = BLANK;
-    match write_header(alloc, bands, blocks, &mut buf) {
+    match write_header(alloc, bands, blocks, false, &mut buf) {
         Err(_) => false,
         Ok(size) => {
             let shorter = size.saturating_sub(1);
             let same = &buf[..size] == header && buf[size..] == BLANK[size..];
-            let full = write_header(alloc, bands, blocks, &mut buf[..shorter]);
+            let full = write_header(alloc, bands, blocks, false, &mut buf[..shorter]);
             same && full == Err(PutFault::Full)
         }
     }
@@ -398,8 +399,8 @@ fn are_refused(alloc: Global, bands: &Bands, blocks: &[Block]) -> bool
     requires few { block_count (map grid_of bands.now.items) ≤ 65536 }
 {
     let mut buf = BLANK;
-    let wide = write_header(alloc, bands, blocks, &mut buf);
-    let empty = write_header(alloc, bands, blocks, &mut []);
+    let wide = write_header(alloc, bands, blocks, false, &mut buf);
+    let empty = write_header(alloc, bands, blocks, false, &mut []);
     wide == Err(PutFault::Blocks) && empty == Err(PutFault::Blocks)
 }
 
@@ -465,6 +466,7 @@ fn front(bytes: &[u8], size: usize) -> &[u8] {
 fn read_front(
     alloc: Global,
     bands: &Bands,
+    eph: bool,
     bytes: &[u8],
     size: usize,
 ) -> Result<HeaderOut, AllocError>
@@ -472,7 +474,7 @@ fn read_front(
     requires few { block_count (map grid_of bands.now.items) ≤ 65536 }
 {
     let mut reader = HeaderReader::reserve(alloc, 65_536)?;
-    Ok(reader.read(bands, front(bytes, size)))
+    Ok(reader.read(bands, eph, front(bytes, size)))
 }
 
 /// Whether these code-blocks are read of these bytes, and they are a header of this size.
@@ -487,7 +489,7 @@ fn is_read_back(
     requires few { block_count (map grid_of bands.now.items) ≤ 65536 }
 {
     let mut reader = HeaderReader::reserve(alloc, 65_536)?;
-    let out = reader.read(bands, bytes);
+    let out = reader.read(bands, false, bytes);
     Ok(out == HeaderOut::Done(size) && reader.blocks() == blocks)
 }
 
@@ -500,7 +502,7 @@ fn a_header_of_65_536_code_blocks_is_read_back(rt: HostRuntime) -> Result<(), Pu
     assert_eq!(rt; blocks.len(), 65_536);
     let bands = higher((256, 128), (128, 128), (128, 128));
     let mut buf = long_buffer(rt.alloc())?;
-    let size = write_header(rt.alloc(), &bands, &blocks, &mut buf);
+    let size = write_header(rt.alloc(), &bands, &blocks, false, &mut buf);
     assert_eq!(rt; size, Ok(62_849));
     assert_eq!(rt; front(&buf, 4), [0xFF, 0x7F, 0xF1, 0x62].as_slice());
     assert!(rt; front(&buf, 62_849).ends_with(&[0x58, 0xB1, 0x62, 0xC4]));
@@ -509,7 +511,7 @@ fn a_header_of_65_536_code_blocks_is_read_back(rt: HostRuntime) -> Result<(), Pu
 }
 
 /// Writes the header of 256 columns and rows of code-blocks, of which so many, the first ones, have a longer cleanup segment.
-fn write_many(alloc: Global, longer: usize, buf: &mut [u8]) -> Result<usize, PutFault> {
+fn write_many(alloc: Global, longer: usize, eph: bool, buf: &mut [u8]) -> Result<usize, PutFault> {
     let mut blocks = Vec::new(alloc);
     include_all(&mut blocks, 0, 256, 256)?;
     for (at, block) in blocks.iter_mut().enumerate() {
@@ -517,19 +519,25 @@ fn write_many(alloc: Global, longer: usize, buf: &mut [u8]) -> Result<usize, Put
             block.cleanup = 8;
         }
     }
-    write_header(alloc, &lowest(256, 256), &blocks, buf)
+    write_header(alloc, &lowest(256, 256), &blocks, eph, buf)
 }
 
 #[test]
 fn a_header_of_65_536_bytes_is_the_longest_that_is_read(rt: HostRuntime) -> Result<(), PutFault> {
     let bands = lowest(256, 256);
     let mut buf = long_buffer(rt.alloc())?;
-    assert_eq!(rt; write_many(rt.alloc(), 10_748, &mut buf), Ok(65_536));
+    assert_eq!(rt; write_many(rt.alloc(), 10_748, false, &mut buf), Ok(65_536));
     let longest = HeaderOut::Done(65_536);
-    assert_eq!(rt; read_front(rt.alloc(), &bands, &buf, 70_000)?, longest);
-    assert_eq!(rt; read_front(rt.alloc(), &bands, &buf, 65_536)?, longest);
     assert_eq!(rt;
-        read_front(rt.alloc(), &bands, &buf, 65_535)?,
+        read_front(rt.alloc(), &bands, false, &buf, 70_000)?,
+        longest
+    );
+    assert_eq!(rt;
+        read_front(rt.alloc(), &bands, false, &buf, 65_536)?,
+        longest
+    );
+    assert_eq!(rt;
+        read_front(rt.alloc(), &bands, false, &buf, 65_535)?,
         HeaderOut::Need
     );
     Ok(())
@@ -539,13 +547,76 @@ fn a_header_of_65_536_bytes_is_the_longest_that_is_read(rt: HostRuntime) -> Resu
 fn a_header_of_65_537_bytes_is_written_and_not_read(rt: HostRuntime) -> Result<(), PutFault> {
     let bands = lowest(256, 256);
     let mut buf = long_buffer(rt.alloc())?;
-    assert_eq!(rt; write_many(rt.alloc(), 10_752, &mut buf), Ok(65_537));
+    assert_eq!(rt; write_many(rt.alloc(), 10_752, false, &mut buf), Ok(65_537));
     let too_long = HeaderOut::Bad(HeaderWhy::TooLong);
-    assert_eq!(rt; read_front(rt.alloc(), &bands, &buf, 70_000)?, too_long);
-    assert_eq!(rt; read_front(rt.alloc(), &bands, &buf, 65_536)?, too_long);
     assert_eq!(rt;
-        read_front(rt.alloc(), &bands, &buf, 65_535)?,
+        read_front(rt.alloc(), &bands, false, &buf, 70_000)?,
+        too_long
+    );
+    assert_eq!(rt;
+        read_front(rt.alloc(), &bands, false, &buf, 65_536)?,
+        too_long
+    );
+    assert_eq!(rt;
+        read_front(rt.alloc(), &bands, false, &buf, 65_535)?,
         HeaderOut::Need
+    );
+    Ok(())
+}
+
+/// What is read of these bytes, of a precinct with one code-block, where EPH follows each packet header.
+fn read_marked(alloc: Global, bytes: &[u8]) -> Result<HeaderOut, AllocError> {
+    let mut reader = HeaderReader::reserve(alloc, 65_536)?;
+    Ok(reader.read(&lowest(1, 1), true, bytes))
+}
+
+#[test]
+fn eph_belongs_to_the_header_where_it_is_asked_for(rt: HostRuntime) -> Result<(), AllocError> {
+    let no_eph = HeaderOut::Bad(HeaderWhy::NoEph);
+    let cases: [(&[u8], HeaderOut); 12] = [
+        (&[0xC8, 0x80, 0xFF, 0x92, 0xAA, 0xBB], HeaderOut::Done(4)),
+        (&[0x00, 0xFF, 0x92], HeaderOut::Done(3)),
+        (
+            &[0xEF, 0xFF, 0x00, 0x01, 0x00, 0xFF, 0x92],
+            HeaderOut::Done(7),
+        ),
+        (&[0xEF, 0xF0, 0xFF, 0x00, 0xFF, 0x92], HeaderOut::Done(6)),
+        (&[0xC8, 0x80, 0xAA, 0xBB], no_eph),
+        (&[0xC8, 0x80, 0xFF, 0x93, 0xAA, 0xBB], no_eph),
+        (&[0x00, 0x00], no_eph),
+        (&[0xC8, 0x80, 0xFF], HeaderOut::Need),
+        (&[0xC8, 0x80], HeaderOut::Need),
+        (&[], HeaderOut::Need),
+        (
+            &[0xEF, 0xF0, 0xFF, 0x92],
+            HeaderOut::Bad(HeaderWhy::Stuffed),
+        ),
+        (&[0xFA, 0xFF, 0x92], HeaderOut::Bad(HeaderWhy::Passes)),
+    ];
+    for (row, (bytes, want)) in cases.iter().enumerate() {
+        assert_eq!(rt; read_marked(rt.alloc(), bytes)?, *want, "in row {row}");
+    }
+    Ok(())
+}
+
+#[test]
+fn eph_is_not_counted_into_the_greatest_length_of_a_header(
+    rt: HostRuntime,
+) -> Result<(), PutFault> {
+    let bands = lowest(256, 256);
+    let mut buf = long_buffer(rt.alloc())?;
+    assert_eq!(rt; write_many(rt.alloc(), 10_748, true, &mut buf), Ok(65_538));
+    assert_eq!(rt;
+        read_front(rt.alloc(), &bands, true, &buf, 65_538)?,
+        HeaderOut::Done(65_538)
+    );
+    assert_eq!(rt;
+        read_front(rt.alloc(), &bands, true, &buf, 65_537)?,
+        HeaderOut::Need
+    );
+    assert_eq!(rt;
+        write_many(rt.alloc(), 10_748, true, &mut buf[..65_537]),
+        Err(PutFault::Full)
     );
     Ok(())
 }

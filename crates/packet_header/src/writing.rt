@@ -1,10 +1,11 @@
 //! Packet headers written: the code-blocks that are included, with the least labels and the least Lblocks.
-ghost use Rattle.std.specs.Prelude.{◌≡◌, ◌≢◌, ◌≤◌, ◌<◌, ◌*◌, ◌++◌, List, [], ◌∷◌, map, length, take, drop, IfOk};
+ghost use Rattle.std.specs.Prelude.{◌≡◌, ◌≢◌, ◌≤◌, ◌<◌, ◌+◌, ◌*◌, ◌++◌, List, [], ◌∷◌, map, length, take, drop, Option, true, IfOk, IfSome};
 ghost use Rattle.std.specs.List.{AllByRecursion};
 ghost use Rattle.codestream_model.specs.TagTrees.{Seat, Labels, seats};
 ghost use Rattle.codestream_model.specs.HeaderPieces.{bits_of, header_pieces};
 ghost use Rattle.codestream_model.specs.Packet.{block_count};
 ghost use Rattle.codestream_model.specs.PacketHeader.{HaveOwnBands, AreBlocks, IsWithinLimits, SpellsHeader, least_choices, least_lblock, written_bits, written_header};
+ghost use Rattle.codestream_model.specs.MarkedHeader.{end_marker, SpellsMarkedHeader, written_marked_header};
 ghost use Rattle.precinct_geometry.specs.Spans.{grid_of};
 ghost use Rattle.tag_tree.specs.LeafReading.{IsSameShape};
 ghost use Rattle.tag_tree.specs.LeafWriting.{grid_of as tree_grid, Holds, HasMet, MeetsLeaf, Writes, leaf_bits, value_step};
@@ -20,6 +21,7 @@ use crate::fault::PutFault;
 use crate::filling::trees_of;
 use crate::grids::TagTrees;
 use crate::judging::are_blocks;
+use crate::marker::EPH;
 use crate::queue::Queue;
 use precinct_geometry::{Bands, Grid};
 use std::alloc::Global;
@@ -187,17 +189,8 @@ fn put_header(
     put_grids(alloc, grids, blocks, bits, buf)
 }
 
-/// Writes the header of a packet (T.800 B.10) at the front of `buf`, and answers how many bytes it has; those behind it stay.
-///
-/// `bands` are the grids of the precinct's code-blocks: no two of the same band, and no more than 65,536 code-blocks. `blocks` are
-/// the included ones in header order. The tag trees have the least labels and each code-block the least Lblock, and the pad bits
-/// are 0.
-///
-/// # Errors
-///
-/// `Blocks` exactly where `blocks` aren't distinct code-blocks of the grids in header order, or a value is out of its range; it
-/// is judged first. `Full` exactly where the header is longer than `buf`. `NoMemory` where there is none for the tag trees.
-pub fn write_header(
+/// Writes the header of a packet at the start of `buf`, without EPH.
+fn write_plain(
     alloc: Global,
     bands: &Bands,
     blocks: &[Block],
@@ -205,7 +198,7 @@ pub fn write_header(
 ) -> Result<usize, PutFault>
     requires own_bands { HaveOwnBands (map grid_of bands.now.items) }
     requires few { block_count (map grid_of bands.now.items) ≤ 65536 }
-    ensures blocks { result ≡ Err PutFault.Blocks → ¬ AreBlocks (map grid_of bands.now.items) (map block_of blocks.now) }
+    ensures blocks { result ≡ Err PutFault.Blocks → (¬ AreBlocks (map grid_of bands.now.items) (map block_of blocks.now)) × (buf.new ≡ buf.old) }
     ensures judged { result ≢ Err PutFault.Blocks → AreBlocks (map grid_of bands.now.items) (map block_of blocks.now) }
     ensures full { result ≡ Err PutFault.Full → length buf.old < length (written_header (map grid_of bands.now.items) (map block_of blocks.now)) }
     ensures written { IfOk result (λ n. (n ≡ length (written_header (map grid_of bands.now.items) (map block_of blocks.now))) × (take n buf.new ≡ written_header (map grid_of bands.now.items) (map block_of blocks.now))) }
@@ -220,4 +213,57 @@ pub fn write_header(
     let mut bits = BitWriter::new();
     put_header(alloc, grids, blocks, &mut bits, buf)?;
     Ok(bits.finish(buf)?)
+}
+
+/// Writes EPH after a header of `used` bytes, and answers how many bytes both have; `None` where `buf` is too short for it.
+fn put_eph(used: usize, buf: &mut [u8]) -> Option<usize>
+    requires { used ≤ length buf.old }
+    ensures none { result ≡ None → (length buf.old < used + 2) × (buf.new ≡ buf.old) }
+    ensures written { IfSome result (λ n. (n ≡ used + 2) × (used + 2 ≤ length buf.old) × (take n buf.new ≡ take used buf.old ++ end_marker true) × (drop n buf.new ≡ drop n buf.old)) }
+{
+    if buf.len() - used < 2 {
+        return None;
+    }
+    buf[used] = EPH[0];
+    buf[used + 1] = EPH[1];
+    Some(used + 2)
+}
+
+/// Writes the header of a packet (T.800 B.10) at the start of `buf`, with EPH (A.8.2) after it where `eph` is set, and answers how
+/// many bytes that takes; those after it stay.
+///
+/// `bands` are the grids of the precinct's code-blocks: no two of the same band, and no more than 65,536 code-blocks. `blocks` are
+/// the included ones in header order. The tag trees have the least labels and each code-block the least Lblock, and the pad bits
+/// are 0.
+///
+/// # Errors
+///
+/// `Blocks` exactly where `blocks` aren't distinct code-blocks of the grids in header order, or a value is out of its range; it
+/// is judged first, and `buf` is left as it was. `Full` exactly where the header with its EPH is longer than `buf`. `NoMemory` where
+/// there is none for the tag trees.
+pub fn write_header(
+    alloc: Global,
+    bands: &Bands,
+    blocks: &[Block],
+    eph: bool,
+    buf: &mut [u8],
+) -> Result<usize, PutFault>
+    requires own_bands { HaveOwnBands (map grid_of bands.now.items) }
+    requires few { block_count (map grid_of bands.now.items) ≤ 65536 }
+    ensures blocks { result ≡ Err PutFault.Blocks → (¬ AreBlocks (map grid_of bands.now.items) (map block_of blocks.now)) × (buf.new ≡ buf.old) }
+    ensures judged { result ≢ Err PutFault.Blocks → AreBlocks (map grid_of bands.now.items) (map block_of blocks.now) }
+    ensures full { result ≡ Err PutFault.Full → length buf.old < length (written_marked_header (map grid_of bands.now.items) eph (map block_of blocks.now)) }
+    ensures written { IfOk result (λ n. (n ≡ length (written_marked_header (map grid_of bands.now.items) eph (map block_of blocks.now))) × (take n buf.new ≡ written_marked_header (map grid_of bands.now.items) eph (map block_of blocks.now))) }
+    ensures fits { IfOk result (λ n. n ≤ length buf.old) }
+    ensures behind { IfOk result (λ n. drop n buf.new ≡ drop n buf.old) }
+    ensures says { IfOk result (λ n. n ≤ 65536 → SpellsMarkedHeader (map grid_of bands.now.items) eph (map block_of blocks.now) (take n buf.new)) }
+{
+    let used = write_plain(alloc, bands, blocks, buf)?;
+    if !eph {
+        return Ok(used);
+    }
+    match put_eph(used, buf) {
+        None => Err(PutFault::Full),
+        Some(all) => Ok(all),
+    }
 }

@@ -5,7 +5,7 @@ use Rattle.codestream_model.specs.Precincts.{grids}
 use Rattle.codestream_model.specs.Packet.{block_count}
 use Rattle.codestream_model.specs.Codestream.{WalkRefusal, HeadRefused, Cut, TooManyBlocks, HeaderRefused, PacketTooLong, Psot, NoEoc, InputTooLong, TooManyFrames, RefusesNext, NeedsNextBytes}
 use Rattle.codestream_model.proofs.OwnBands.{own_bands}
-use Rattle.codestream_model.proofs.VerdictLemmas.{one_verdict}
+use Rattle.codestream_model.proofs.MarkedVerdicts.{one_marked_verdict}
 use Rattle.codestream_walk.specs.Items.{RefusesHeadItem}
 use Rattle.stream_model.specs.CommandLaws.{LacksNext, BeginsWithHead}
 use Rattle.stream_model.proofs.ParsedInputs.{head_lacks, packet_header, long_lacks, needs_lacks, other_lacks, few_lacks}
@@ -27,7 +27,7 @@ refused_lacks h [] size rest Cut r = absurd r
 refused_lacks h [] size rest InputTooLong r = absurd r
 refused_lacks h [] size rest TooManyFrames r = absurd r
 refused_lacks h (p ∷ later) size rest TooManyBlocks r = λ b. let few : block_count (grids h p) ≤ 65536 = b.3.few_blocks in omega (arith, r, few)
-refused_lacks h (p ∷ later) size rest (HeaderRefused why) r = λ b. (one_verdict (grids h p) rest (own_bands h p)).not_refused (packet_header h p rest b) why r.1
+refused_lacks h (p ∷ later) size rest (HeaderRefused why) r = λ b. (one_marked_verdict (grids h p) h.eph rest (own_bands h p)).not_refused (packet_header h p rest b) why r.1
 refused_lacks h (p ∷ later) size rest PacketTooLong r = λ b. long_lacks h p rest r b
 refused_lacks h (p ∷ later) size rest (HeadRefused why) r = absurd r
 refused_lacks h (p ∷ later) size rest Cut r = absurd r

@@ -310,6 +310,7 @@ not_header header.CleanupShort e = cc
 not_header header.CleanupLong e = cc
 not_header header.RefineLong e = cc
 not_header header.TooLong e = cc
+not_header header.NoEph e = cc
 
 is_cut : (why : WalkRefusal) → reason_for why ≡ reason.Cut → why ≡ Cut
 is_cut Cut e = refl

@@ -20,6 +20,7 @@ header_reason header.CleanupShort = reason.CleanupShort
 header_reason header.CleanupLong = reason.CleanupLong
 header_reason header.RefineLong = reason.RefineLong
 header_reason header.TooLong = reason.PacketHeaderTooLong
+header_reason header.NoEph = reason.NoEph
 
 -- The reason that is noted for a fault of the input.
 abbrev pub reason_for : WalkRefusal → Reason

@@ -100,5 +100,6 @@ fn header_reason_of(why: HeaderWhy) -> Reason
         HeaderWhy::RefineLong => Reason::RefineLong,
         HeaderWhy::ZeroPlanes => Reason::ZeroPlanes,
         HeaderWhy::TooLong => Reason::PacketHeaderTooLong,
+        HeaderWhy::NoEph => Reason::NoEph,
     }
 }

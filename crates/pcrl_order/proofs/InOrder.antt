@@ -22,7 +22,7 @@ use Rattle.pcrl_order.proofs.Precincts.{Differ, all_differ}
 
 -- what packets are ordered by
 abbrev pub numbers_of : Anchored → List ℕ
-numbers_of a = a.y ∷ a.x ∷ a.c ∷ a.r ∷ []
+numbers_of a = a.rank ∷ a.y ∷ a.x ∷ a.c ∷ a.r ∷ []
 
 -- one comes before another, or has the same numbers
 abbrev pub IsUpTo : Anchored → Anchored → Type 0
@@ -51,10 +51,11 @@ first_then x y xs ys o rest e = elim (not_less y x o e) [
 -- one that the next isn't less than comes before it, or has its numbers
 pub up_to : (a b : Anchored) → is_lt (by_fields b a) ≡ false → IsUpTo a b
 up_to a b e =
-    first_then a.y b.y (a.x ∷ a.c ∷ a.r ∷ []) (b.x ∷ b.c ∷ b.r ∷ []) _
+    first_then a.rank b.rank (a.y ∷ a.x ∷ a.c ∷ a.r ∷ []) (b.y ∷ b.x ∷ b.c ∷ b.r ∷ []) _
+    (first_then a.y b.y (a.x ∷ a.c ∷ a.r ∷ []) (b.x ∷ b.c ∷ b.r ∷ []) _
     (first_then a.x b.x (a.c ∷ a.r ∷ []) (b.c ∷ b.r ∷ []) _
     (first_then a.c b.c (a.r ∷ []) (b.r ∷ []) _
-    (first_then a.r b.r [] [] (nat_cmp b.k a.k) (λ k. inr refl)))) e
+    (first_then a.r b.r [] [] (nat_cmp b.k a.k) (λ k. inr refl))))) e
 
 -- what is less by a number and then by an order is less, or as great and less by that order
 is_less : (m n : ℕ) (o : Ordering) → is_lt (ordering_then (nat_cmp m n) o) ≡ true → (m < n) ⊎ ((m ≡ n) × (is_lt o ≡ true))
@@ -73,10 +74,11 @@ less_then x y xs ys o rest e = elim (is_less x y o e) [
 -- one that is less than another comes before it, or has its numbers
 pub less_up_to : (a b : Anchored) → is_lt (by_fields a b) ≡ true → IsUpTo a b
 less_up_to a b e =
-    less_then a.y b.y (a.x ∷ a.c ∷ a.r ∷ []) (b.x ∷ b.c ∷ b.r ∷ []) _
+    less_then a.rank b.rank (a.y ∷ a.x ∷ a.c ∷ a.r ∷ []) (b.y ∷ b.x ∷ b.c ∷ b.r ∷ []) _
+    (less_then a.y b.y (a.x ∷ a.c ∷ a.r ∷ []) (b.x ∷ b.c ∷ b.r ∷ []) _
     (less_then a.x b.x (a.c ∷ a.r ∷ []) (b.c ∷ b.r ∷ []) _
     (less_then a.c b.c (a.r ∷ []) (b.r ∷ []) _
-    (less_then a.r b.r [] [] (nat_cmp a.k b.k) (λ k. inr refl)))) e
+    (less_then a.r b.r [] [] (nat_cmp a.k b.k) (λ k. inr refl))))) e
 
 -- sorted ones are each up to the next
 each_up_to : (ys : List Anchored) → IsSorted by_fields ys → (k : ℕ) (d : Anchored) → suc k < length ys → IsUpTo (get_or ys k d) (get_or ys (suc k) d)

@@ -4,6 +4,7 @@ pub mod InOrder
 pub mod Leasts
 pub mod Parts
 pub mod Precincts
+pub mod Ranks
 pub mod Resolutions
 pub mod Heres
 pub mod Steps

@@ -5,7 +5,7 @@ use Rattle.std.proofs.Math.Nat.{mul-le-mul_right, mul_comm}
 use Rattle.codestream_model.specs.Values.{Pair, Head}
 use Rattle.codestream_model.specs.Areas.{resolution_area, step_of}
 use Rattle.codestream_model.specs.Precincts.{precinct_exponents, precinct_count, precinct_columns, precinct_rows}
-use Rattle.codestream_model.specs.PacketOrder.{anchor}
+use Rattle.codestream_model.specs.PacketOrder.{anchor, rank}
 use Rattle.codestream_model.specs.HeadLimits.{IsWithinLimits}
 use Rattle.precinct_geometry.specs.declared.course.Course.{Course}
 use Rattle.precinct_geometry.specs.Courses.{corner_of}
@@ -52,10 +52,10 @@ row_of h c r rows columns k a few =
 
 -- what is chosen is the least
 pub least_is : (h : Head) (c r y x : ℕ) (rows columns : Course) (row column : ℕ) → AreOf h c r rows columns → IsChoice rows columns y x row column → row < rows.count → column < columns.count
-    → IsLeastIn h c r y x (record { y = corner_of rows row; x = corner_of columns column; c = c; r = r; k = row * columns.count + column })
+    → IsLeastIn h c r y x (record { rank = rank h r; y = corner_of rows row; x = corner_of columns column; c = c; r = r; k = row * columns.count + column })
 least_is h c r y x rows columns row column a choice below few =
     let at = anchor_at h c r rows columns row column a few in
-    let make : Pair → Anchored = λ w. record { y = w.y; x = w.x; c = c; r = r; k = row * columns.count + column } in
+    let make : Pair → Anchored = λ w. record { rank = rank h r; y = w.y; x = w.x; c = c; r = r; k = row * columns.count + column } in
     let P : Pair → Type 0 = λ w. IsFrom y x w in
     let Q : Pair → Type 0 = λ w. IsFrom (corner_of rows row) (corner_of columns column) w in
     record {

@@ -35,15 +35,16 @@ NoneIn h c r y x = (k : ℕ) → k < precinct_count h c r → IsFrom y x (anchor
 
 -- A key as the list of numbers by which it is compared.
 abbrev pub numbers_in : Key → List ℕ
-numbers_in a = a.y ∷ a.x ∷ a.c ∷ a.r ∷ []
+numbers_in a = a.rank ∷ a.y ∷ a.x ∷ a.c ∷ a.r ∷ []
 
 -- A list of numbers comes before another, or is the same.
 abbrev pub IsUpTo : List ℕ → List ℕ → Type 0
 IsUpTo a b = IsBefore a b ⊎ (a ≡ b)
 
--- The anchors of a resolution that aren't before a key are those from the key's row and this column on.
-abbrev pub IsColumnFrom : Key → ℕ → ℕ → ℕ → Type 0
-IsColumnFrom from c r x = (a : Pair) → IsUpTo (numbers_in from) (a.y ∷ a.x ∷ c ∷ r ∷ []) ↔ IsFrom from.y x a
+-- The anchors of a resolution of this rank that aren't before a key are those from this place (y, x) on, or there are none.
+abbrev pub IsStartIn : Key → ℕ → ℕ → ℕ → Option (ℕ × ℕ) → Type 0
+IsStartIn from rank c r None = (a : Pair) → IsUpTo (numbers_in from) (rank ∷ a.y ∷ a.x ∷ c ∷ r ∷ []) → ⊥
+IsStartIn from rank c r (Some s) = (a : Pair) → IsUpTo (numbers_in from) (rank ∷ a.y ∷ a.x ∷ c ∷ r ∷ []) ↔ IsFrom s.0 s.1 a
 
 -- Of some precincts whose keys aren't before `from`, the one with the least key.
 pub record IsLeast (h : Head) (from : List ℕ) (Among : Place → Type 0) (a : Anchored) : Type 0 where
@@ -56,6 +57,11 @@ pub record IsLeast (h : Head) (from : List ℕ) (Among : Place → Type 0) (a : 
 abbrev pub IsLeastOf : Head → List ℕ → (Place → Type 0) → Option Anchored → Type 0
 IsLeastOf h from Among None = (z : Place) → IsPrecinct h z → Among z → IsUpTo from (key h z) → ⊥
 IsLeastOf h from Among (Some a) = IsLeast h from Among a
+
+-- A precinct was found whose rank is less than this one.
+abbrev pub IsPast : Option Anchored → ℕ → Type 0
+IsPast None rank = ⊥
+IsPast (Some a) rank = a.rank < rank
 
 -- A precinct of a component below `c`, or of component `c` and a resolution below `r`.
 abbrev pub IsOfEarlier : ℕ → ℕ → Place → Type 0

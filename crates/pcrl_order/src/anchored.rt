@@ -6,18 +6,31 @@ ghost use Rattle.codestream_model.specs.PacketOrder as order;
 ghost use Rattle.precinct_geometry.specs.Spans.{place_of};
 ghost use Rattle.pcrl_order.specs.Anchors.{anchored_of, by_fields, component_places, place_in};
 
+use j2k_markers::RPCL;
 use precinct_geometry::{Geometry, Place};
 use std::alloc::{AllocError, Global};
 
-/// A precinct and its anchor. Their order, by the fields from first to last, is that of the packets: no two precincts
-/// of an image differ in `k` alone.
+/// A precinct, its rank and its anchor. Their order, by the fields from first to last, is that of the packets: no two
+/// precincts of an image differ in `k` alone.
 #[derive(Clone, Copy, Debug, PartialEq, Eq, PartialOrd, Ord)]
 pub struct Anchored {
+    pub rank: u8,
     pub y: u64,
     pub x: u64,
     pub c: u8,
     pub r: u8,
     pub k: u32,
+}
+
+/// What packets are ordered by before all else: in RPCL the resolution, in PCRL nothing.
+pub fn rank(geometry: &Geometry, r: u8) -> u8
+    ensures { result ≡ order.rank geometry.now r }
+{
+    if geometry.head().order() == RPCL {
+        r
+    } else {
+        0
+    }
 }
 
 /// The number of precincts of a resolution.
@@ -31,13 +44,14 @@ fn count(geometry: &Geometry, c: u8, r: u8) -> u32
     columns * rows
 }
 
-/// A precinct with its anchor.
+/// A precinct with its rank and its anchor.
 fn with_anchor(geometry: &Geometry, place: Place) -> Anchored
     requires { precincts.IsPrecinct geometry.now (place_of place) }
     ensures { result ≡ anchored_of geometry.now (place_of place) }
 {
     let (y, x) = geometry.anchor(place);
     Anchored {
+        rank: rank(geometry, place.r),
         y,
         x,
         c: place.c,

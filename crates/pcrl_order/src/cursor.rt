@@ -1,4 +1,4 @@
-//! The packet order as a cursor that moves from one precinct to the next, without memory (T.800 B.12.1.4).
+//! The packet order as a cursor that moves from one precinct to the next, without memory (T.800 B.12.1.3, B.12.1.4).
 ghost use Rattle.std.specs.Prelude.{◌≡◌, ◌≤◌, ◌<◌, ◌+◌, ◌^◌, ◌∷◌, [], true, false, IfSome, IsNone, length};
 ghost use Rattle.codestream_model.specs.Areas.{component_area};
 ghost use Rattle.codestream_model.specs.Precincts.{IsPrecinct};
@@ -6,9 +6,9 @@ ghost use Rattle.codestream_model.specs.PacketOrder.{packet_order};
 ghost use Rattle.precinct_geometry.specs.Courses.{IsCourse};
 ghost use Rattle.precinct_geometry.specs.Spans.{area_of, place_of, IsWithin};
 ghost use Rattle.pcrl_order.specs.Later.{later};
-ghost use Rattle.pcrl_order.specs.Least.{IsChoice, IsLeastIn, NoneIn, IsColumnFrom, numbers_in, IsLeastOf, IsOfEarlier};
+ghost use Rattle.pcrl_order.specs.Least.{IsChoice, IsLeastIn, NoneIn, IsStartIn, IsPast, numbers_in, IsLeastOf, IsOfEarlier};
 
-use crate::anchored::Anchored;
+use crate::anchored::{Anchored, rank};
 use precinct_geometry::{Area, Course, Geometry, Place};
 use std::marker::Model;
 
@@ -53,6 +53,7 @@ fn least_in(geometry: &Geometry, area: Area, c: u8, r: u8, y: u64, x: u64) -> Op
     }
     let (row, column) = (row as u32, column as u32);
     Some(Anchored {
+        rank: rank(geometry, r),
         y: rows.anchor(row),
         x: columns.anchor(column),
         c,
@@ -61,25 +62,44 @@ fn least_in(geometry: &Geometry, area: Area, c: u8, r: u8, y: u64, x: u64) -> Op
     })
 }
 
-/// What packets are ordered by: the anchor's y and x, the component, the resolution.
+/// What packets are ordered by: the rank, the anchor's y and x, the component, the resolution.
 #[derive(Clone, Copy, Debug, PartialEq, Eq)]
 struct Key {
+    rank: u8,
     y: u64,
     x: u64,
     c: u8,
     r: u8,
 }
 
-/// The first column in the key's row from which on the anchors of a resolution aren't before the key.
-fn column_from(from: Key, c: u8, r: u8) -> u64
+/// The place (y, x) of the reference grid from which on the anchors of a resolution of this rank aren't before the key,
+/// or None where all of them are.
+fn start_in(from: Key, rank: u8, c: u8, r: u8) -> Option<(u64, u64)>
+    requires y { from.y < 2 ^ 56 }
     requires x { from.x < 2 ^ 56 }
-    ensures column { IsColumnFrom from c r result }
-    ensures near { result ≤ from.x + 1 }
+    ensures start { IsStartIn from rank c r result }
+    ensures near_y { IfSome result (λ s. s.0 < 2 ^ 60) }
+    ensures near_x { IfSome result (λ s. s.1 < 2 ^ 60) }
 {
+    if rank < from.rank {
+        return None;
+    }
+    if rank > from.rank {
+        return Some((0, 0));
+    }
     if c < from.c || (c == from.c && r < from.r) {
-        from.x + 1
-    } else {
-        from.x
+        return Some((from.y, from.x + 1));
+    }
+    Some((from.y, from.x))
+}
+
+/// Whether each precinct of this rank comes after the one that was found.
+fn is_past(best: Option<Anchored>, rank: u8) -> bool
+    ensures { result ≡ true → IsPast best rank }
+{
+    match best {
+        Some(least) => least.rank < rank,
+        None => false,
     }
 }
 
@@ -101,7 +121,14 @@ fn with_resolution(
     requires best { IsLeastOf geometry.now (numbers_in from) (IsOfEarlier c r) best }
     ensures { IsLeastOf geometry.now (numbers_in from) (IsOfEarlier c (r + 1)) result }
 {
-    let Some(one) = least_in(geometry, area, c, r, from.y, column_from(from, c, r)) else {
+    let here = rank(geometry, r);
+    if is_past(best, here) {
+        return best;
+    }
+    let Some((y, x)) = start_in(from, here, c, r) else {
+        return best;
+    };
+    let Some(one) = least_in(geometry, area, c, r, y, x) else {
         return best;
     };
     let Some(least) = best else {
@@ -164,6 +191,7 @@ impl Cursor {
         let Some(first) = least_from(
             geometry,
             Key {
+                rank: 0,
                 y: 0,
                 x: 0,
                 c: 0,
@@ -210,6 +238,7 @@ impl Cursor {
         let Some(next) = least_from(
             geometry,
             Key {
+                rank: rank(geometry, self.place.r),
                 y,
                 x,
                 c: self.place.c,

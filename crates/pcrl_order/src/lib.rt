@@ -1,4 +1,5 @@
-//! The order of the packets of an image: by position, component and resolution (T.800 B.12.1.4).
+//! The order of the packets of an image: by resolution, position and component (RPCL, T.800 B.12.1.3), or by position,
+//! component and resolution (PCRL, B.12.1.4).
 #![tactic(auto)]
 
 mod anchored;

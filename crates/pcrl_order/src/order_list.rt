@@ -37,7 +37,7 @@ impl OrderList {
     }
 
     /// The precincts, each once, in the order of their packets: by the anchor's y and x, the component and the
-    /// resolution.
+    /// resolution, and in RPCL by the resolution before these.
     pub fn places(&self) -> &[Place]
         ensures { map place_of result.now ≡ self.now }
     {

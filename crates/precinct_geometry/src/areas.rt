@@ -32,7 +32,41 @@ pub fn ceil_div(a: u64, b: u64) -> u64
     a.div_ceil(b)
 }
 
-/// A stretch as it is when only every so many-th place is kept.
+/// A number divided by 2^e.
+pub fn over_power(a: u64, e: u8) -> u64
+    requires { e ≤ 16 }
+    ensures value { result ≡ a / 2 ^ e }
+    ensures less { result ≤ a }
+{
+    a >> e
+}
+
+/// A number divided by 2^e, rounded up.
+pub fn ceil_over_power(a: u64, e: u8) -> u64
+    requires e { e ≤ 16 }
+    requires a { a < 2 ^ 62 }
+    ensures value { result ≡ areas.ceil_div a (2 ^ e) }
+    ensures less { result ≤ a }
+{
+    (a + (power(e) - 1)) >> e
+}
+
+/// A stretch after keeping every 2^e-th place.
+pub fn divided_by_power(e: u8, s: Span) -> Span
+    requires e { e ≤ 16 }
+    requires from { s.from < 2 ^ 62 }
+    requires to { s.to < 2 ^ 62 }
+    ensures span { span_of result ≡ areas.divided (2 ^ e) (span_of s) }
+    ensures from_less { result.from ≤ s.from }
+    ensures to_less { result.to ≤ s.to }
+{
+    Span {
+        from: ceil_over_power(s.from, e),
+        to: ceil_over_power(s.to, e),
+    }
+}
+
+/// A stretch after keeping every `by`-th place.
 pub fn divided(by: u64, s: Span) -> Span
     requires some { 1 ≤ by }
     requires by { by < 2 ^ 62 }
@@ -58,11 +92,10 @@ pub fn band_span(level: u8, odd: u8, s: Span) -> Span
     ensures from_less { result.from ≤ s.from }
     ensures to_less { result.to ≤ s.to }
 {
-    let step = power(level);
     let half = power(level.saturating_sub(1)) * u64::from(odd);
     Span {
-        from: ceil_div(s.from.saturating_sub(half), step),
-        to: ceil_div(s.to.saturating_sub(half), step),
+        from: ceil_over_power(s.from.saturating_sub(half), level),
+        to: ceil_over_power(s.to.saturating_sub(half), level),
     }
 }
 
@@ -76,8 +109,7 @@ pub fn strips(e: u8, s: Span) -> u64
     if s.to == s.from {
         return 0;
     }
-    let width = power(e);
-    ceil_div(s.to, width).saturating_sub(s.from / width)
+    ceil_over_power(s.to, e).saturating_sub(over_power(s.from, e))
 }
 
 /// The part of a stretch that lies in a strip of 2^e places.

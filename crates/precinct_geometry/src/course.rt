@@ -4,7 +4,7 @@ ghost use Rattle.codestream_model.specs.Precincts.{strips as strips_in};
 ghost use Rattle.precinct_geometry.specs.Spans.{span_of};
 ghost use Rattle.precinct_geometry.specs.Courses.{IsFirstFrom, corner_of, IsCourse};
 
-use crate::areas::{Span, ceil_div, power, strips};
+use crate::areas::{Span, ceil_div, over_power, power, strips};
 
 /// The strips in one direction: where the image begins on the reference grid, the number of the first strip that has
 /// samples, the width of a strip on the grid, and how many strips have samples.
@@ -55,7 +55,7 @@ pub fn course_of(start: u32, stretch: Span, step: u8, e: u8, deeper: u8) -> Cour
 {
     Course {
         start: u64::from(start),
-        first: stretch.from / power(e),
+        first: over_power(stretch.from, e),
         width: u64::from(step) * (power(e) * power(deeper)),
         count: strips(e, stretch) as u32,
     }

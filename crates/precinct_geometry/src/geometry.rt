@@ -9,7 +9,7 @@ ghost use Rattle.codestream_model.specs.Values as values;
 ghost use Rattle.precinct_geometry.specs.Courses.{IsCourse};
 ghost use Rattle.precinct_geometry.specs.Spans.{span_of, area_of, place_of, grid_of, IsWithin};
 
-use crate::areas::{Span, band_span, corner, divided, part, power, strips};
+use crate::areas::{Span, band_span, corner, divided, divided_by_power, part, power, strips};
 use crate::course::{Course, course_of};
 use crate::place::{Bands, Grid, Place};
 use j2k_markers::Head;
@@ -86,10 +86,10 @@ impl Geometry {
         ensures within { IsWithin result }
     {
         let area = self.component_area(c);
-        let by = power(self.head.levels() - r);
+        let deeper = self.head.levels() - r;
         Area {
-            x: divided(by, area.x),
-            y: divided(by, area.y),
+            x: divided_by_power(deeper, area.x),
+            y: divided_by_power(deeper, area.y),
         }
     }
 
@@ -126,7 +126,7 @@ impl Geometry {
         let (step, _) = self.head.step(c);
         let (e, _) = self.head.precinct(r);
         let deeper = self.head.levels() - r;
-        course_of(x0, divided(power(deeper), area.x), step, e, deeper)
+        course_of(x0, divided_by_power(deeper, area.x), step, e, deeper)
     }
 
     /// The rows of precincts of a resolution.
@@ -145,7 +145,7 @@ impl Geometry {
         let (_, step) = self.head.step(c);
         let (_, e) = self.head.precinct(r);
         let deeper = self.head.levels() - r;
-        course_of(y0, divided(power(deeper), area.y), step, e, deeper)
+        course_of(y0, divided_by_power(deeper, area.y), step, e, deeper)
     }
 
     /// The columns and the rows of precincts of a resolution.

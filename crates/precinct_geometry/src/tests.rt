@@ -3,6 +3,7 @@ ghost use Rattle.std.specs.Prelude.{◌≤◌, ◌<◌, length};
 
 use super::*;
 use j2k_markers::read_head;
+use std::alloc::{AllocError, Global};
 use std::process::Abort;
 
 /// An image from (7, 11) to (1000, 600), with steps of 3, 5 and 255, three levels and precincts of four sizes.
@@ -142,4 +143,29 @@ fn the_last_precinct_of_the_widest_image_has_the_last_number(rt: HostRuntime) {
     assert_eq!(rt; geometry.of_pid(1_048_576), None);
     // of 2^15 by 2^15 places in code-blocks of 64 by 64; the last column has one place less
     assert_eq!(rt; geometry.blocks(last), 512 * 512);
+}
+
+/// An image of the one sample at (0, 0) in sixteen components.
+fn sixteen_components(alloc: Global) -> Result<Vec<u8>, AllocError> {
+    let mut bytes = Vec::new(alloc);
+    bytes.extend_from_slice(&[0xFF, 0x4F, 0xFF, 0x51, 0, 38 + 3 * 16, 0x40, 0])?;
+    bytes.extend_from_slice(&[0, 0, 0, 1, 0, 0, 0, 1, 0, 0, 0, 0, 0, 0, 0, 0])?;
+    bytes.extend_from_slice(&[0, 0, 0, 1, 0, 0, 0, 1, 0, 0, 0, 0, 0, 0, 0, 0, 0, 16])?;
+    for _ in 0..16 {
+        bytes.extend_from_slice(&[7, 1, 1])?;
+    }
+    bytes.extend_from_slice(&WIDEST[45..])?;
+    Ok(bytes)
+}
+
+#[test]
+fn the_last_of_sixteen_components_has_the_last_number(rt: HostRuntime) -> Result<(), AllocError> {
+    let geometry = geometry_of(&rt, &sixteen_components(rt.alloc())?);
+    let last = Place { c: 15, r: 0, k: 0 };
+    assert!(rt; geometry.holds(last));
+    assert_eq!(rt; geometry.pid(last), 15);
+    assert_eq!(rt; geometry.of_pid(15), Some(last));
+    assert_eq!(rt; geometry.of_pid(16), None);
+    assert!(rt; !geometry.holds(Place { c: 16, r: 0, k: 0 }));
+    Ok(())
 }

@@ -1,9 +1,12 @@
 -- Receivers of a relay, and a sender, each with its own link.
-use Rattle.std.specs.Prelude.{◌≡◌, ℕ, List, [], ◌∷◌, refl, map, Some}
-use Rattle.wire_model.specs.Link.{Reception, Arrived, Sent, Busy, Broken}
+use Rattle.std.specs.Prelude.{◌≡◌, ℕ, List, [], ◌∷◌, refl, map, Some, codes}
+use Rattle.std.proofs.Common.{arith}
+use Rattle.std.proofs.lemmas.Fmt.{decimal_digit}
+use Rattle.wire_model.specs.Link.{Reception, Arrived, NotReady, Closed, Sent, Busy, Broken}
 use Rattle.wire_model.proofs.Captures.{main_of_b, first_body_of_b, second_body_of_b, third_body_of_b, last_body_of_b, codestream_of_b, main_header_of_three}
 use Rattle.relay_model.specs.Queue.{untold, send_tale, poll, turns, flushes}
 use Rattle.relay_model.specs.Relays.{relay_tale, left_over, flush_count}
+use Rattle.relay_model.specs.Lines.{relay_lines, relay_line}
 
 -- the five datagrams of a stream of three precincts: its Main and four Bodies
 abbrev pub five : List (List ℕ)
@@ -46,3 +49,16 @@ pub a_sender : (send_tale 3 0 untold five (Sent ∷ Sent ∷ Sent ∷ Sent ∷ S
     × (send_tale 3 0 untold (main_of_b ∷ first_body_of_b ∷ []) (Busy ∷ Busy ∷ Busy ∷ Busy ∷ Busy ∷ Busy ∷ []) ≡ record { sent = []; lost = 2; failed = 0; left = [] })
 unfolding send_tale
 a_sender = (refl, refl)
+
+-- the lines of the first two receivers, where five datagrams were the most that were taken
+pub two_receivers : relay_lines 5 one_a_turn (
+    relay_tale 7 1 one_a_turn (Busy ∷ Busy ∷ Busy ∷ Busy ∷ Busy ∷ Busy ∷ Busy ∷ Busy ∷ [])
+    ∷ relay_tale 7 1 one_a_turn (Sent ∷ Sent ∷ Sent ∷ Sent ∷ Sent ∷ []) ∷ []
+    ) ≡ codes "RELAY end=max in=5 refused=0\nPEER 0 sent=0 lost=4 failed=0 left=1\nPEER 1 sent=5 lost=0 failed=0 left=0\n"
+unfolding poll turns flushes main_of_b first_body_of_b second_body_of_b third_body_of_b last_body_of_b codestream_of_b main_header_of_three
+two_receivers = rw (decimal_digit 0 (omega arith), decimal_digit 1 (omega arith), decimal_digit 4 (omega arith), decimal_digit 5 (omega arith)) refl
+
+-- an empty datagram isn't well formed; the words for a wire that was closed, and for one on which nothing comes
+pub other_ends : (relay_line 5 (Arrived [] ∷ Closed ∷ []) ≡ codes "RELAY end=closed in=1 refused=1\n")
+    × (relay_line 5 (NotReady ∷ NotReady ∷ []) ≡ codes "RELAY end=idle in=0 refused=0\n")
+other_ends = (rw (decimal_digit 1 (omega arith)) refl, rw (decimal_digit 0 (omega arith)) refl)

@@ -1,3 +1,4 @@
 pub mod Queue
 pub mod Relays
+pub mod Lines
 pub mod Laws

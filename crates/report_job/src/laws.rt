@@ -1,6 +1,7 @@
-//! The headline, as laws on functions that do nothing.
+//! The headline and the readings, as laws on functions that do nothing.
 ghost use Rattle.report_job.specs.Headlines.{HeadlineFollows, HeadlineSoFar, HeadlineAtFault};
 ghost use Rattle.report_job.specs.Headlines.{WholeStreamIsReported};
+ghost use Rattle.report_job.specs.Readings.{ReadingsSoFar, ReadingsAtEnd};
 
 /// What a finished report has written of a stream's capture are the lines of what is due at its
 /// end, and the END line.
@@ -24,4 +25,16 @@ pub fn headline_at_fault()
 /// all its precincts, and the END line.
 pub fn whole_stream_is_reported()
     ensures { WholeStreamIsReported }
+{}
+
+/// What a report has written before each call that asks for input are the lines of readings of what
+/// was read, whatever bytes that are.
+pub fn readings_so_far()
+    ensures { ReadingsSoFar }
+{}
+
+/// What a report has written by its end are the lines of readings of what was read, whatever bytes
+/// that are and however it ended; and the END line where it finished.
+pub fn readings_at_end()
+    ensures { ReadingsAtEnd }
 {}

@@ -7,7 +7,10 @@ mod giving;
 mod laws;
 
 pub use capture::report;
-pub use laws::{headline_at_fault, headline_follows, headline_so_far, whole_stream_is_reported};
+pub use laws::{
+    headline_at_fault, headline_follows, headline_so_far, readings_at_end, readings_so_far,
+    whole_stream_is_reported,
+};
 
 #[cfg(test)]
 mod tests;

@@ -8,6 +8,8 @@ use std::process::Abort;
 use std::test::Fail;
 use stream_receiver::Pick;
 
+mod forged;
+
 /// A capture of two frames: a Main packet with the header of an image of one sample, and a Body
 /// packet with one packet of a code-block with the cleanup bytes AABB, and EOC.
 const ONE_SAMPLE: [u8; 139] = [
@@ -35,11 +37,14 @@ const BODY_HEADERS: [[u8; 8]; 4] = [
     [7, 0x00, 0, 0, 0, 0x00, 0, 0],
 ];
 
-/// The lines that are wanted: of a precinct as it was sent, of one with no code-blocks, each with
-/// its stamp and PID.
+/// The lines that are wanted, with a stamp and a PID.
 #[derive(Clone, Copy)]
 enum Line {
+    /// Of a precinct as it was sent.
     Sent(u32, u32),
+    /// Of one with the code-block that was sent for another PID.
+    Other(u32, u32, u32),
+    /// Of one with no code-blocks.
     Empty(u32, u32),
 }
 
@@ -84,9 +89,10 @@ fn push_frame(capture: &mut Vec<u8>, first: u32, index: u32) -> Result<(), Alloc
 
 /// Appends the lines of a precinct.
 fn push_line(text: &mut Vec<u8>, line: Line) -> Result<(), AllocError> {
-    let (stamp, pid, blocks) = match line {
-        Line::Sent(stamp, pid) => (stamp, pid, 1),
-        Line::Empty(stamp, pid) => (stamp, pid, 0),
+    let (stamp, pid, block) = match line {
+        Line::Sent(stamp, pid) => (stamp, pid, Some(pid)),
+        Line::Other(stamp, pid, sent_for) => (stamp, pid, Some(sent_for)),
+        Line::Empty(stamp, pid) => (stamp, pid, None),
     };
     let digit = [b'0' + (pid % 3) as u8];
     text.extend_from_slice(b"P stamp=")?;
@@ -99,30 +105,25 @@ fn push_line(text: &mut Vec<u8>, line: Line) -> Result<(), AllocError> {
     text.extend_from_slice(&digit)?;
     text.extend_from_slice(b" c=0 r=0 k=")?;
     text.extend_from_slice(&digit)?;
-    if blocks == 0 {
+    let Some(sent_for) = block else {
         return text.extend_from_slice(b" blocks=0\n");
-    }
+    };
     text.extend_from_slice(
         b" blocks=1\nB band=0 col=0 row=0 planes=0 passes=1 cleanup=100 refine=0 bytes=",
     )?;
-    text.extend_from_slice(&[b'1' + (pid % 3) as u8; 200])?;
+    text.extend_from_slice(&[b'1' + (sent_for % 3) as u8; 200])?;
     text.extend_from_slice(b"\n")
 }
 
-/// Reports a capture of a stream of payload type 96 with any SSRC.
-fn reports(
+/// Reports a capture of a stream of payload type 96 with any SSRC: this is written.
+fn writes(
     rt: &impl Abort,
     alloc: Global,
     window: u16,
     capture: &[u8],
-    (lines, end): (&[Line], &[u8]),
+    wanted: &[u8],
 ) -> Result<(), Fail> {
     assert!(rt; 1 <= window && window <= 16_384);
-    let mut text = Vec::new(alloc);
-    for line in lines {
-        push_line(&mut text, *line)?;
-    }
-    text.extend_from_slice(end)?;
     let pick = Pick {
         kind: 96,
         source: None,
@@ -130,9 +131,25 @@ fn reports(
     };
     let mut duct = DuctMem::new(alloc, capture, &[], &[], &[], 10_000)?;
     assert_eq!(rt; report(alloc, pick, &mut duct), Ending::Done);
-    assert_eq!(rt; duct.written(), text.as_slice());
+    assert_eq!(rt; duct.written(), wanted);
     assert!(rt; duct.told());
     Ok(())
+}
+
+/// Reports a capture: these lines are written.
+fn reports(
+    rt: &impl Abort,
+    alloc: Global,
+    window: u16,
+    capture: &[u8],
+    (lines, end): (&[Line], &[u8]),
+) -> Result<(), Fail> {
+    let mut text = Vec::new(alloc);
+    for line in lines {
+        push_line(&mut text, *line)?;
+    }
+    text.extend_from_slice(end)?;
+    writes(rt, alloc, window, capture, &text)
 }
 
 /// Reports the datagrams at these indices of two codestreams, in this order.

@@ -5,8 +5,10 @@ use Rattle.std.proofs.lemmas.Bool.Decides.{eqb_tells}
 use Rattle.codestream_model.specs.Values.{Head, Place, Grid}
 use Rattle.codestream_model.specs.Values as values
 use Rattle.codestream_model.specs.Precincts.{grids}
-use Rattle.codestream_model.specs.Packet.{block_count, segment_bytes}
-use Rattle.codestream_model.specs.PacketHeaderReading.{HeaderReading, Done, Need, Bad, header_of}
+use Rattle.codestream_model.specs.MarkedHeader.{IsPartOfEph}
+use Rattle.codestream_model.specs.Packet.{NeedsPacketHeaderBytes, block_count, segment_bytes}
+use Rattle.codestream_model.specs.PacketHeaderReading.{HeaderReading, Done, Need, Bad}
+use Rattle.codestream_model.specs.MarkedHeader.{marked_header_of}
 use Rattle.stream_model.specs.Decoder.{Found, Whole, Part, Other, found_packet, found_header, found_segments}
 use Rattle.stream_model.proofs.PacketsFound.{found_some}
 use Rattle.packet_header.specs.Answers.{block_of, why_of, Tells}
@@ -31,15 +33,15 @@ finds_none h p (b ∷ bytes) held e = absurd (omega arith)
 pub finds_many : (h : Head) (p : Place) (bytes : List ℕ) (held : List Block) → 1 ≤ length bytes → 65536 < block_count (grids h p) → Finds (found_packet h p bytes) found.Other held
 finds_many h p bytes held some many =
     let t : nat_lt 65536 (block_count (grids h p)) ≡ true = lt-ltb 65536 (block_count (grids h p)) many in
-    let e : found_packet h p bytes ≡ Other = found_some h p bytes some ∙ ap (λ (b : Bool). if b then Other else found_header bytes (header_of (grids h p) bytes)) t in
+    let e : found_packet h p bytes ≡ Other = found_some h p bytes some ∙ ap (λ (b : Bool). if b then Other else found_header bytes (marked_header_of (grids h p) h.eph bytes)) t in
     let F : Found → Type 0 = λ f. Finds f found.Other held in
     subst F (sym e) refl
 
 -- what the header says
-few_found : (h : Head) (p : Place) (bytes : List ℕ) → 1 ≤ length bytes → block_count (grids h p) ≤ 65536 → found_packet h p bytes ≡ found_header bytes (header_of (grids h p) bytes)
+few_found : (h : Head) (p : Place) (bytes : List ℕ) → 1 ≤ length bytes → block_count (grids h p) ≤ 65536 → found_packet h p bytes ≡ found_header bytes (marked_header_of (grids h p) h.eph bytes)
 few_found h p bytes some few =
     let t : nat_lt 65536 (block_count (grids h p)) ≡ false = le-ltb 65536 (block_count (grids h p)) few in
-    found_some h p bytes some ∙ ap (λ (b : Bool). if b then Other else found_header bytes (header_of (grids h p) bytes)) t
+    found_some h p bytes some ∙ ap (λ (b : Bool). if b then Other else found_header bytes (marked_header_of (grids h p) h.eph bytes)) t
 
 sized : (bytes : List ℕ) (blocks : List values.Block) (header size : ℕ) (held : List Block) → map block_of held ≡ blocks → Finds (found_segments bytes blocks header size) (found_by size header (length bytes)) held
 sized bytes blocks header size held e = elim (nat_lt 16777216 size) as (λ b. Finds (if b then Other else if nat_le size (length bytes) then Whole blocks header size else Part) (if b then found.Other else if nat_le size (length bytes) then found.Whole header size else found.Part) held) [
@@ -74,13 +76,14 @@ answered bytes (Bad w) answer held e = (
   λ why f. refl,
 )
 
-pub finds_by : (h : Head) (p : Place) (bytes : List ℕ) (gs : List Grid) (answer : HeaderOut) (held : List Block) → 1 ≤ length bytes → block_count (grids h p) ≤ 65536 → gs ≡ grids h p → Tells (header_of gs bytes) answer held
+pub finds_by : (h : Head) (p : Place) (bytes : List ℕ) (gs : List Grid) (eph : Bool) (answer : HeaderOut) (held : List Block) → 1 ≤ length bytes → block_count (grids h p) ≤ 65536 → gs ≡ grids h p → eph ≡ h.eph → Tells (marked_header_of gs eph bytes) answer held
     → ((used : ℕ) → answer ≡ out.Done used → Finds (found_packet h p bytes) (found_by (used + segment_bytes (map block_of held)) used (length bytes)) held)
     × (answer ≡ out.Need → Finds (found_packet h p bytes) found.Part held)
     × ((why : HeaderWhy) → answer ≡ out.Bad why → Finds (found_packet h p bytes) found.Other held)
-finds_by h p bytes gs answer held some few same tells =
-    let e : found_packet h p bytes ≡ found_header bytes (header_of gs bytes) = few_found h p bytes some few ∙ sym (ap (λ g. found_header bytes (header_of g bytes)) same) in
-    let a = answered bytes (header_of gs bytes) answer held tells in
+finds_by h p bytes gs eph answer held some few same asked tells =
+    let e : found_packet h p bytes ≡ found_header bytes (marked_header_of gs eph bytes) =
+    few_found h p bytes some few ∙ sym (ap (λ g. found_header bytes (marked_header_of g eph bytes)) same ∙ ap (λ b. found_header bytes (marked_header_of (grids h p) b bytes)) asked) in
+    let a = answered bytes (marked_header_of gs eph bytes) answer held tells in
     let F : code.Found → Found → Type 0 = λ x f. Finds f x held in (
       λ u f. subst (F (found_by (u + segment_bytes (map block_of held)) u (length bytes))) (sym e) (a.0 u f),
       λ f. subst (F found.Part) (sym e) (a.1 f),
@@ -90,6 +93,19 @@ finds_by h p bytes gs answer held some few same tells =
 -- there is a byte
 pub some_bytes : (bytes : List ℕ) → (length bytes == 0) ≡ false → 1 ≤ length bytes
 some_bytes bytes e = elim (eqb_tells (length bytes) 0) [ inl u ↦ (let f : true ≡ false = sym u.0 ∙ e in absurd (cc)) | inr u ↦ (let n : length bytes ≢ 0 = u.1 in omega arith) ]
+
+-- a part of EPH has one byte at most
+part_size : (rest : List ℕ) → IsPartOfEph rest → length rest ≤ 1
+part_size rest (inl e) = omega (arith, ap (λ (l : List ℕ). length l) e)
+part_size rest (inr e) = omega (arith, ap (λ (l : List ℕ). length l) e)
+
+-- bytes that end inside a packet header or its EPH are few
+needs_short : (h : Head) (p : Place) (bytes : List ℕ) → NeedsPacketHeaderBytes h p bytes → length bytes < 65538
+needs_short h p bytes (inl n) = omega (arith, n.short)
+needs_short h p bytes (inr l) =
+    let whole = ap (λ (xs : List ℕ). length xs) l.begins.whole in
+    let n = length-append l.begins.header l.rest in
+    omega (arith, l.begins.is_header.short, whole, n, part_size l.rest l.part)
 
 -- what is found is within the bytes
 found_within : (h : Head) (p : Place) (bytes : List ℕ) (f : Found) (r : code.Found) (held : List Block) → IsBytes bytes → found_packet h p bytes ≡ f → Finds f r held → IsFound r (length bytes)
@@ -102,7 +118,7 @@ found_within h p bytes Part r held b e is =
     subst P (sym is) (elim ((found_is h p bytes Part b).0 e) [
       | inl none ↦ (let z = ap (λ (l : List ℕ). length l) none in omega (arith, z))
       | inr needs ↦ elim needs.unfinished [
-        | inl header ↦ omega (arith, header.short)
+        | inl header ↦ omega (arith, needs_short h p bytes header)
         | inr segments ↦ (let w = ap (λ (l : List ℕ). length l) segments.begins.whole in let n = length-append segments.header segments.rest in omega (arith, w, n, segments.fits, segments.lacks))
       ]
     ])

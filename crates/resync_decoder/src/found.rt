@@ -70,7 +70,8 @@ pub fn look(geometry: &Geometry, reader: &mut HeaderReader, place: Place, bytes:
     if geometry.blocks(place) > u64::from(MOST_BLOCKS) {
         return Found::Other;
     }
-    match reader.read(&geometry.bands(place), bytes) {
+    let eph = geometry.head().eph();
+    match reader.read(&geometry.bands(place), eph, bytes) {
         HeaderOut::Done(used) => judge(used, reader.blocks(), bytes.len()),
         HeaderOut::Need => Found::Part,
         HeaderOut::Bad(_) => Found::Other,

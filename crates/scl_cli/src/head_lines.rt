@@ -1,18 +1,18 @@
 //! The lines that show the values of a main header.
 ghost use Rattle.std.specs.Prelude.{◌≡◌, ◌≤◌, ◌+◌, ◌*◌, ◌++◌, length};
 ghost use Rattle.std.specs.List.{flat_map, range_with_len};
-ghost use Rattle.scl_cli.specs.HeadLines.{line, area_line, component_line, precinct_line, head_lines};
+ghost use Rattle.scl_cli.specs.HeadLines.{line, area_line, component_line, precinct_line, order_line, head_lines};
 
 use crate::texts::push_number;
 use arrayvec::ArrayString;
-use j2k_markers::Head;
+use j2k_markers::{Head, RPCL};
 
-/// Lines of a main header: one of its area, four with two numbers at most each, four with three and sixteen with three.
-type Lines = ArrayString<2048>;
+/// Lines of a main header: one of its area, five with two numbers at most each, and two times sixteen with three.
+type Lines = ArrayString<4096>;
 
 /// Puts a line behind the lines: a word, and numbers with a blank before each.
 fn push_line(lines: &mut Lines, word: &str, numbers: &[u32])
-    requires { length lines.old.bytes + length word.now + 21 * length numbers.now + 1 ≤ 2048 }
+    requires { length lines.old.bytes + length word.now + 21 * length numbers.now + 1 ≤ 4096 }
     ensures text { lines.new.bytes ≡ lines.old.bytes ++ line word.now numbers.now }
     ensures size { length lines.new.bytes ≤ length lines.old.bytes + length word.now + 21 * length numbers.now + 1 }
 {
@@ -37,11 +37,22 @@ fn push_area(lines: &mut Lines, head: &Head)
     lines.push_str("\n");
 }
 
+/// Puts the line of the packet order after the lines, where it is RPCL.
+fn push_order(lines: &mut Lines, head: &Head)
+    requires { length lines.old.bytes ≤ 200 }
+    ensures text { lines.new.bytes ≡ lines.old.bytes ++ order_line head.now }
+    ensures size { length lines.new.bytes ≤ length lines.old.bytes + 27 }
+{
+    if head.order() == RPCL {
+        push_line(lines, "ORDER", &[u32::from(RPCL)]);
+    }
+}
+
 /// Puts the lines of the components behind the lines.
 fn push_components(lines: &mut Lines, head: &Head)
     requires { length lines.old.bytes ≤ 300 }
     ensures text { lines.new.bytes ≡ lines.old.bytes ++ flat_map (component_line head.now) (range_with_len 0 (length head.now.steps)) }
-    ensures size { length lines.new.bytes ≤ length lines.old.bytes + 272 }
+    ensures size { length lines.new.bytes ≤ length lines.old.bytes + 1088 }
 {
     for c in 0..head.components() {
         let (x, y) = head.step(c);
@@ -51,7 +62,7 @@ fn push_components(lines: &mut Lines, head: &Head)
 
 /// Puts the lines of the resolutions behind the lines.
 fn push_precincts(lines: &mut Lines, head: &Head)
-    requires { length lines.old.bytes ≤ 600 }
+    requires { length lines.old.bytes ≤ 1500 }
     ensures text { lines.new.bytes ≡ lines.old.bytes ++ flat_map (precinct_line head.now) (range_with_len 0 (head.now.levels + 1)) }
     ensures size { length lines.new.bytes ≤ length lines.old.bytes + 1088 }
 {
@@ -68,6 +79,7 @@ pub fn lines_of(head: &Head) -> Lines
     let mut lines = Lines::new();
     push_area(&mut lines, head);
     push_line(&mut lines, "LEVELS", &[u32::from(head.levels())]);
+    push_order(&mut lines, head);
     let (x, y) = head.block();
     push_line(&mut lines, "BLOCK", &[u32::from(x), u32::from(y)]);
     push_components(&mut lines, head);

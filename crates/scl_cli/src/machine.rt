@@ -8,7 +8,7 @@ ghost use Rattle.scl_cli.specs.MachineMeaning.{faults_at};
 
 use crate::socket::{Socket, events_for};
 use mio::Events;
-use scl_outside::{BindOut, Duct, Outside, ReadOut, RecvOut, SendOut, WriteOut};
+use scl_outside::{BindOut, Duct, Outside, ReadOut, RecvOut, SendOut, WriteOut, are_bytes};
 use std::alloc::Global;
 use std::io::{self, BufReader, BufWriter, ErrorKind, Read, Write};
 use std::net::{Net, SocketAddr, ToSocketAddrs};
@@ -133,7 +133,10 @@ impl<I: Read, O: Write + Drop, E: Write, N> Duct for Machine<I, O, E, N> {
         }
         match read_through(&mut self.input, buf) {
             Ok(0) => ReadOut::End,
-            Ok(count) => ReadOut::Got(count),
+            Ok(count) => {
+                are_bytes(buf);
+                ReadOut::Got(count)
+            }
             Err(_) => {
                 self.read_faults = self.read_faults.saturating_add(1);
                 ReadOut::Failed

@@ -1,9 +1,9 @@
 -- Which calls of a list failed, and what held before each.
 use Rattle.std.proofs.Common.{◌≡◌, ◌<◌, ℕ, zero, suc, Bool, true, false, ◌||◌, List, [], ◌∷◌, ◌++◌, length, refl, sym, ◌∙◌, ap, subst, arith}
 use Rattle.std.specs.Prelude.{Contains, MatchBool}
-use Rattle.scl_outside.specs.Events.{Event, WireEvent, Took, Ended, ReadFailed, Wrote, WriteFailed, Noted, OnWire, asks, is_note, read_fails, write_fails, wire_fails}
-use Rattle.scl_outside.specs.Effects.{Effects, HasPassed, nothing, effect_of, and_then, effects, wire_failed}
-use Rattle.scl_outside.specs.Traces.{AtReads}
+use Rattle.scl_outside.specs.Events.{Event, WireEvent, Took, Ended, ReadFailed, Wrote, WriteFailed, Noted, OnWire, asks, read_fails, write_fails, wire_fails}
+use Rattle.scl_outside.specs.Effects.{Effects, nothing, effect_of, and_then, effects, wire_failed}
+use Rattle.scl_outside.specs.Traces.{AtReads, MayFollow}
 use Rattle.scl_outside.specs.Failures.{FailuresAreCalls, HoldsBefore, ReadsAreBefore}
 use Rattle.scl_outside.proofs.Traces.{and_then-nothing, and_then-assoc}
 
@@ -113,36 +113,28 @@ no_end (b ∷ before) e after is = absurd (cc)
 -- the same before each, after what was done
 abbrev HoldsAfter : (Effects → Bool) → Effects → List Event → Type 0
 HoldsAfter p done es = (before : List Event) (e : Event) (after : List Event) → es ≡ before ++ e ∷ after
-    → (asks e ≡ true → p (and_then done (effects before)) ≡ true) × (is_note e ≡ false → HasPassed (and_then done (effects before)))
+    → (asks e ≡ true → p (and_then done (effects before)) ≡ true) × MayFollow e (and_then done (effects before))
 
 asked : (b : Bool) (A : Type 0) → MatchBool b A (Unit {0}) → b ≡ true → A
 asked true A h e = h
 asked false A h e = absurd (cc)
 
-unasked : (b : Bool) (A : Type 0) → MatchBool b (Unit {0}) A → b ≡ false → A
-unasked false A h e = h
-unasked true A h e = absurd (cc)
-
 to_ask : (b : Bool) (A : Type 0) → (b ≡ true → A) → MatchBool b A (Unit {0})
 to_ask true A h = h refl
 to_ask false A h = tt
 
-to_unask : (b : Bool) (A : Type 0) → (b ≡ false → A) → MatchBool b (Unit {0}) A
-to_unask false A h = h refl
-to_unask true A h = tt
-
 before_each : (p : Effects → Bool) (done : Effects) (es : List Event) → AtReads (λ f. p f ≡ true) done es → HoldsAfter p done es
 before_each p done [] h before e after is = absurd (no_end before e after is)
 before_each p done (x ∷ es) h [] e after is =
-    let P : Event → Effects → Type 0 = λ y f. (asks y ≡ true → p f ≡ true) × (is_note y ≡ false → HasPassed f) in
-    let here : P x done = (asked (asks x) (p done ≡ true) h.0, unasked (is_note x) (HasPassed done) h.1) in
+    let P : Event → Effects → Type 0 = λ y f. (asks y ≡ true → p f ≡ true) × MayFollow y f in
+    let here : P x done = (asked (asks x) (p done ≡ true) h.0, h.1) in
     let same : x ≡ e = cc in
     let Q : Event → Type 0 = λ y. P y (and_then done nothing) in
     subst Q same (let R : Effects → Type 0 = λ f. P x f in subst R (sym (and_then-nothing done)) here)
 before_each p done (x ∷ es) h (b ∷ before) e after is =
     let same : x ≡ b = cc in
     let rest : es ≡ before ++ e ∷ after = cc in
-    let R : Effects → Type 0 = λ f. (asks e ≡ true → p f ≡ true) × (is_note e ≡ false → HasPassed f) in
+    let R : Effects → Type 0 = λ f. (asks e ≡ true → p f ≡ true) × MayFollow e f in
     let at : and_then (and_then done (effect_of x)) (effects before) ≡ and_then done (and_then (effect_of b) (effects before)) =
     and_then-assoc done (effect_of x) (effects before) ∙ ap (λ (y : Event). and_then done (and_then (effect_of y) (effects before))) same in
     subst R at (before_each p (and_then done (effect_of x)) es h.2 before e after rest)
@@ -150,12 +142,12 @@ before_each p done (x ∷ es) h (b ∷ before) e after is =
 each_before : (p : Effects → Bool) (done : Effects) (es : List Event) → HoldsAfter p done es → AtReads (λ f. p f ≡ true) done es
 each_before p done [] h = tt
 each_before p done (x ∷ es) h =
-    let R : Effects → Type 0 = λ f. (asks x ≡ true → p f ≡ true) × (is_note x ≡ false → HasPassed f) in
+    let R : Effects → Type 0 = λ f. (asks x ≡ true → p f ≡ true) × MayFollow x f in
     let here = subst R (and_then-nothing done) (h [] x es refl) in
-    (to_ask (asks x) (p done ≡ true) here.0, to_unask (is_note x) (HasPassed done) here.1, each_before p (and_then done (effect_of x)) es later_on) where
+    (to_ask (asks x) (p done ≡ true) here.0, here.1, each_before p (and_then done (effect_of x)) es later_on) where
       later_on : HoldsAfter p (and_then done (effect_of x)) es
       later_on before e after is =
-          let S : Effects → Type 0 = λ f. (asks e ≡ true → p f ≡ true) × (is_note e ≡ false → HasPassed f) in
+          let S : Effects → Type 0 = λ f. (asks e ≡ true → p f ≡ true) × MayFollow e f in
           subst S (sym (and_then-assoc done (effect_of x) (effects before))) (h (x ∷ before) e after (ap (λ (l : List Event). x ∷ l) is))
 
 pub reads_are_before : ReadsAreBefore

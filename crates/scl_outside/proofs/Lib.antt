@@ -1,5 +1,6 @@
 pub mod InMemory
 pub mod Traces
+pub mod ReadBytes
 pub mod Affects
 pub mod Prompted
 pub mod TextsCut

@@ -1,9 +1,10 @@
 -- What each call does to what an object in memory tells.
-use Rattle.std.proofs.Common.{◌≡◌, ◌≤◌, ℕ, suc, zero, Bool, true, List, [], ◌∷◌, Option, length, take, refl, sym, ◌∙◌, ap, subst, arith}
+use Rattle.std.proofs.Common.{◌≡◌, ◌≤◌, ℕ, Bool, true, List, [], ◌∷◌, Option, length, length-take-le, refl, sym, ◌∙◌, ap, subst, arith}
 use Rattle.wire_model.specs.Link.{Reception, Arrived, LinkAnswer}
 use Rattle.wire_model.specs.Link as link
+use Rattle.wire_model.specs.Bytes.{IsBytes}
 use Rattle.scl_outside.specs.Meaning.{Meaning, Wire}
-use Rattle.scl_outside.specs.Events.{Took, OnWire, Received, IsCall, asks, taken_by, written_by, noted_by, wire_by, read_fails, write_fails}
+use Rattle.scl_outside.specs.Events.{OnWire, Received, IsCall, asks, taken_by, written_by, noted_by, wire_by, read_fails, write_fails}
 use Rattle.scl_outside.specs.Steps.{Step, WireStep, WireTrace, IsMarkOf, Marks, Moves, Loses, Counts}
 use Rattle.scl_outside.specs.Answers.{FitsBuffer, read_event}
 use Rattle.scl_outside.specs.Record.{told_of, with_room}
@@ -19,19 +20,15 @@ use Rattle.scl_outside.specs.declared.outside_mem.OutsideMem.{OutsideMem}
 use Rattle.scl_outside.specs.declared.wire_mem.WireMem.{WireMem}
 use Rattle.scl_outside.specs.declared.outside.RecvOut.{RecvOut}
 use Rattle.scl_outside.specs.declared.outside.RecvOut.TheVariants as got
+use Rattle.scl_outside.proofs.ReadBytes.{bytes_front}
 use Rattle.scl_outside.proofs.InMemory.{marked}
 use Rattle.scl_outside.proofs.Affects.{keeps_same}
 
 -- a read that got bytes got some
-some_taken : (n : ℕ) (buf : List ℕ) → 1 ≤ n → n ≤ length buf → IsCall (Took (take n buf))
-some_taken zero buf h k = absurd (omega arith)
-some_taken (suc n) [] h k = absurd (omega arith)
-some_taken (suc n) (x ∷ buf) h k = tt
-
-pub is_call : (r : ReadOut) (buf : List ℕ) (room : ℕ) → length buf ≡ room → FitsBuffer r room → IsCall (read_event r buf)
-is_call (Got n) buf room e fits = some_taken n buf fits.0 (let h = fits.1 in omega arith)
-is_call End buf room e fits = tt
-is_call Failed buf room e fits = tt
+pub is_call : (r : ReadOut) (buf : List ℕ) (room : ℕ) → length buf ≡ room → FitsBuffer r room → IsBytes buf → IsCall (read_event r buf)
+is_call (Got n) buf room e fits are = (omega (arith, length-take-le n buf (omega (arith, e, fits.1)), fits.0), bytes_front n buf are)
+is_call End buf room e fits are = tt
+is_call Failed buf room e fits are = tt
 
 wire_stays : (r : ReadOut) (buf : List ℕ) (w : Wire) → WireTrace w (wire_by (read_event r buf)) w
 wire_stays (Got n) buf w = keeps_same w

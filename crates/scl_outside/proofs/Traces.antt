@@ -4,10 +4,10 @@ use Rattle.std.specs.Prelude.{MatchBool}
 use Rattle.std.specs.List.{AllByRecursion}
 use Rattle.std.proofs.lemmas.List.{append-nil}
 use Rattle.scl_outside.specs.Meaning.{Meaning}
-use Rattle.scl_outside.specs.Events.{Event, WireEvent, asks, is_note, wire_fails}
+use Rattle.scl_outside.specs.Events.{Event, WireEvent, Took, Ended, ReadFailed, Wrote, WriteFailed, Noted, OnWire, Received, Offered, Bound, Joined, asks, is_note, wire_fails, name_fails}
 use Rattle.scl_outside.specs.Steps.{Step}
-use Rattle.scl_outside.specs.Effects.{Effects, HasPassed, nothing, effect_of, and_then, effects, wire_failed}
-use Rattle.scl_outside.specs.Traces.{Trace, AtReads}
+use Rattle.scl_outside.specs.Effects.{Effects, HasPassed, HasPassedButReceiving, nothing, effect_of, and_then, effects, wire_failed, name_failed}
+use Rattle.scl_outside.specs.Traces.{Trace, AtReads, MayFollow}
 
 or-false : (b : Bool) → (b || false) ≡ b
 or-false true = refl
@@ -80,9 +80,55 @@ at_ask : (b : Bool) (P Q : Type 0) → (P → Q) → MatchBool b P (Unit {0}) �
 at_ask true P Q f p = f p
 at_ask false P Q f p = tt
 
-at_call : (b : Bool) (P Q : Type 0) → (P → Q) → MatchBool b (Unit {0}) P → MatchBool b (Unit {0}) Q
-at_call true P Q f p = tt
-at_call false P Q f p = f p
+names_passed : (vs ws : List WireEvent) → name_failed vs ≡ false → name_failed ws ≡ false → name_failed (vs ++ ws) ≡ false
+names_passed [] ws e f = f
+names_passed (v ∷ vs) ws e f = both (name_fails v) (name_failed vs) (name_failed (vs ++ ws)) e (λ h. names_passed vs ws h f) where
+  both : (a b c : Bool) → (a || b) ≡ false → (b ≡ false → c ≡ false) → (a || c) ≡ false
+  both true b c e f = e
+  both false b c e f = f e
+
+-- where no call failed, none did to name an address
+names_of : (ws : List WireEvent) → wire_failed ws ≡ false → name_failed ws ≡ false
+names_of [] e = refl
+names_of (Bound text true ∷ ws) e = names_of ws e
+names_of (Bound text false ∷ ws) e = absurd (cc)
+names_of (Joined text true ∷ ws) e = names_of ws e
+names_of (Joined text false ∷ ws) e = absurd (cc)
+names_of (Received r ∷ ws) e = names_of ws (later (wire_fails (Received r)) (wire_failed ws) e) where
+  later : (a b : Bool) → (a || b) ≡ false → b ≡ false
+  later true b e = absurd (cc)
+  later false b e = e
+names_of (Offered p a ∷ ws) e = names_of ws e
+
+pub passed_to_send : (f : Effects) → HasPassed f → HasPassedButReceiving f
+passed_to_send f p = record { reads = p.reads; writes = p.writes; names = names_of f.wire p.on_wire }
+
+-- a call that may follow what was done may follow it after what has passed
+follow_after : (e : Event) (before done : Effects) → HasPassed before → MayFollow e done → MayFollow e (and_then before done)
+follow_after (Noted line) before done passed p = tt
+follow_after (OnWire (Offered parcel answer)) before done passed p = record {
+  reads = or_passed before.read_failed done.read_failed passed.reads p.reads;
+  writes = or_passed before.write_failed done.write_failed passed.writes p.writes;
+  names = names_passed before.wire done.wire (names_of before.wire passed.on_wire) p.names;
+}
+follow_after (OnWire (Received r)) before done passed p = passed_join before done passed p
+follow_after (OnWire (Bound text b)) before done passed p = passed_join before done passed p
+follow_after (OnWire (Joined text b)) before done passed p = passed_join before done passed p
+follow_after (Took bytes) before done passed p = passed_join before done passed p
+follow_after Ended before done passed p = passed_join before done passed p
+follow_after ReadFailed before done passed p = passed_join before done passed p
+follow_after (Wrote bytes) before done passed p = passed_join before done passed p
+follow_after (WriteFailed bytes) before done passed p = passed_join before done passed p
+
+-- a line for the user follows anything
+note_follows : (e : Event) (done : Effects) → is_note e ≡ true → MayFollow e done
+note_follows (Noted line) done is = tt
+note_follows (OnWire w) done is = absurd (cc)
+note_follows (Took bytes) done is = absurd (cc)
+note_follows Ended done is = absurd (cc)
+note_follows ReadFailed done is = absurd (cc)
+note_follows (Wrote bytes) done is = absurd (cc)
+note_follows (WriteFailed bytes) done is = absurd (cc)
 
 -- what holds before each read of calls holds of the same calls after others that passed, where it follows there
 pub at_reads_after : (P Q : Effects → Type 0) (before done : Effects) (es : List Event) → HasPassed before → ((f : Effects) → P f → Q (and_then before f)) → AtReads P done es → AtReads Q (and_then before done) es
@@ -90,7 +136,7 @@ at_reads_after P Q before done [] passed follows p = tt
 at_reads_after P Q before done (e ∷ es) passed follows p =
     let R : Effects → Type 0 = λ f. AtReads Q f es in (
       at_ask (asks e) (P done) (Q (and_then before done)) (follows done) p.0,
-      at_call (is_note e) (HasPassed done) (HasPassed (and_then before done)) (λ h. passed_join before done passed h) p.1,
+      follow_after e before done passed p.1,
       subst R (sym (and_then-assoc before done (effect_of e))) (at_reads_after P Q before (and_then done (effect_of e)) es passed follows p.2),
     )
 
@@ -109,4 +155,4 @@ at_reads_map P Q done (e ∷ es) follows p = (at_ask (asks e) (P done) (Q done) 
 -- lines for the user aren't asked for anything
 pub at_reads_none : (P : Effects → Type 0) (done : Effects) (es : List Event) → AllByRecursion (λ e. (asks e ≡ false) × (is_note e ≡ true)) es → AtReads P done es
 at_reads_none P done [] none = tt
-at_reads_none P done (e ∷ es) none = (rw none.0.0 tt, rw none.0.1 tt, at_reads_none P (and_then done (effect_of e)) es none.1)
+at_reads_none P done (e ∷ es) none = (rw none.0.0 tt, note_follows e done none.0.1, at_reads_none P (and_then done (effect_of e)) es none.1)

@@ -3,7 +3,7 @@ use Rattle.std.specs.Prelude.{◌≡◌, ℕ, Bool, true, false, ◌||◌, List,
 use Rattle.std.specs.List.{flat_map}
 use Rattle.wire_model.specs.Link.{Reception}
 use Rattle.scl_outside.specs.Meaning.{Parcel, Reply}
-use Rattle.scl_outside.specs.Events.{Event, WireEvent, Took, Ended, ReadFailed, Wrote, WriteFailed, Noted, OnWire, receptions_by, arrivals_by, parcels_by, answers_by, wire_fails}
+use Rattle.scl_outside.specs.Events.{Event, WireEvent, Took, Ended, ReadFailed, Wrote, WriteFailed, Noted, OnWire, receptions_by, arrivals_by, parcels_by, answers_by, wire_fails, name_fails}
 
 -- Calls did all this together: what was read, written and noted, what was done on the wire, whether the
 -- input's end was met, and whether a read or a write failed.
@@ -105,3 +105,14 @@ pub record HasPassed (f : Effects) : Type 0 where
   pub reads : f.read_failed ≡ false
   pub writes : f.write_failed ≡ false
   pub on_wire : wire_failed f.wire ≡ false
+
+-- One of these calls failed to name an address.
+abbrev pub name_failed : List WireEvent → Bool
+name_failed [] = false
+name_failed (w ∷ ws) = name_fails w || name_failed ws
+
+-- No call failed but one for a datagram, those to peers left out.
+pub record HasPassedButReceiving (f : Effects) : Type 0 where
+  pub reads : f.read_failed ≡ false
+  pub writes : f.write_failed ≡ false
+  pub names : name_failed f.wire ≡ false

@@ -1,5 +1,6 @@
 -- The calls of the outside, each as its caller sees it, with its answer.
-use Rattle.std.specs.Prelude.{ℕ, Bool, true, false, List, [], ◌∷◌, Option, Some, None, ◌==◌}
+use Rattle.std.specs.Prelude.{◌≤◌, ℕ, Bool, true, false, List, [], ◌∷◌, length, Option, Some, None, ◌==◌}
+use Rattle.wire_model.specs.Bytes.{IsBytes}
 use Rattle.wire_model.specs.Link.{Reception, Arrived, Failed, LinkAnswer, Sent, Broken}
 use Rattle.scl_outside.specs.Meaning.{Parcel, Reply}
 
@@ -21,9 +22,9 @@ pub data Event : Type 0 where
   Noted : List ℕ → Event
   OnWire : WireEvent → Event
 
--- A read that took bytes took at least one.
+-- A read that took bytes took at least one, and what it took are bytes.
 abbrev pub IsCall : Event → Type 0
-IsCall (Took []) = ⊥
+IsCall (Took bytes) = (1 ≤ length bytes) × IsBytes bytes
 IsCall e = Unit {0}
 
 -- A read took these bytes of the input.
@@ -149,6 +150,12 @@ wire_fails (Received Failed) = true
 wire_fails (Bound text false) = true
 wire_fails (Joined text false) = true
 wire_fails w = false
+
+-- A call that names an address failed.
+abbrev pub name_fails : WireEvent → Bool
+name_fails (Bound text false) = true
+name_fails (Joined text false) = true
+name_fails w = false
 
 -- A call to this peer failed.
 abbrev pub peer_fails : ℕ → WireEvent → Bool

@@ -1,8 +1,8 @@
 -- Which calls of a list failed, and what held before each.
-use Rattle.std.specs.Prelude.{◌≡◌, ◌↔◌, ℕ, Bool, true, false, List, ◌∷◌, ◌++◌, Contains}
-use Rattle.scl_outside.specs.Events.{Event, WireEvent, ReadFailed, WriteFailed, OnWire, asks, is_note, wire_fails}
-use Rattle.scl_outside.specs.Effects.{Effects, HasPassed, nothing, effects, wire_failed}
-use Rattle.scl_outside.specs.Traces.{AtReads}
+use Rattle.std.specs.Prelude.{◌≡◌, ◌↔◌, ℕ, Bool, true, List, ◌∷◌, ◌++◌, Contains}
+use Rattle.scl_outside.specs.Events.{Event, WireEvent, ReadFailed, WriteFailed, OnWire, asks, wire_fails}
+use Rattle.scl_outside.specs.Effects.{Effects, nothing, effects, wire_failed}
+use Rattle.scl_outside.specs.Traces.{AtReads, MayFollow}
 
 -- The effects of calls say that a read, a write or a call of the wire failed exactly where one of the calls
 -- did.
@@ -16,11 +16,11 @@ pub record HasFailures (es : List Event) : Type 0 where
 abbrev pub FailuresAreCalls : Type 0
 FailuresAreCalls = (es : List Event) → HasFailures es
 
--- This holds of all that was done before each call that asks for input, and no call failed before another
--- one, a line for the user left out.
+-- This holds of all that was done before each call that asks for input, and each call may follow what was done
+-- before it.
 abbrev pub HoldsBefore : (Effects → Bool) → List Event → Type 0
 HoldsBefore p es = (before : List Event) (e : Event) (after : List Event) → es ≡ before ++ e ∷ after
-    → (asks e ≡ true → p (effects before) ≡ true) × (is_note e ≡ false → HasPassed (effects before))
+    → (asks e ≡ true → p (effects before) ≡ true) × MayFollow e (effects before)
 
 -- What is said before each read of calls is what held before each, for any test of effects and any calls.
 abbrev pub ReadsAreBefore : Type 0

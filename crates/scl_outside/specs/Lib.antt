@@ -3,6 +3,7 @@ pub mod Events
 pub mod Steps
 pub mod Effects
 pub mod Traces
+pub mod ReadBytes
 pub mod Failures
 pub mod Prompt
 pub mod Answers

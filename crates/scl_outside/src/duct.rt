@@ -1,5 +1,6 @@
 //! A way in, a way out and a line to the user.
 ghost use Rattle.std.specs.Prelude.{◌<◌, length};
+ghost use Rattle.wire_model.specs.Bytes.{IsBytes};
 ghost use Rattle.scl_outside.specs.Meaning.{Meaning};
 ghost use Rattle.scl_outside.specs.Events.{Noted};
 ghost use Rattle.scl_outside.specs.Steps.{Step};
@@ -63,4 +64,11 @@ pub trait Duct {
     /// Gives the user a line beside the output. It can't fail.
     fn note(&mut self, line: &[u8])
         ensures step { Step (meaning self.old) (Noted line.now) (meaning self.new) };
+}
+
+/// Proof only: gives the caller `IsBytes`.
+pub fn are_bytes(bytes: &[u8])
+    ensures { IsBytes bytes.now }
+{
+    let _ = bytes;
 }

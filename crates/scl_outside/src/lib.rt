@@ -17,7 +17,7 @@ mod record;
 mod texts;
 mod wire_mem;
 
-pub use duct::{Duct, Mark, PutOut, ReadOut, WriteOut};
+pub use duct::{Duct, Mark, PutOut, ReadOut, WriteOut, are_bytes};
 pub use inbox::Inbound;
 pub use links::LinkPlan;
 pub use memory::DuctMem;

@@ -6,7 +6,7 @@ ghost use Rattle.scl_outside.specs.Steps.{Step};
 ghost use Rattle.scl_outside.specs.Chunks.{chunk_for};
 
 use crate::record::Record;
-use crate::{Duct, Mark, ReadOut, WriteOut};
+use crate::{Duct, Mark, ReadOut, WriteOut, are_bytes};
 use std::alloc::{AllocError, Global};
 
 /// Copies the next bytes of the input, at most `chunk`, and answers how many it copied: none at the end
@@ -165,7 +165,9 @@ impl Duct for DuctMem {
         ensures memory { ReadsInMemory self.old result (length buf.old) self.new }
     {
         self.mark(0, 0);
-        self.take(buf)
+        let out = self.take(buf);
+        are_bytes(buf);
+        out
     }
 
     fn write(&mut self, bytes: &[u8]) -> WriteOut

@@ -9,6 +9,7 @@ ghost use Rattle.scl_outside.specs.WireAnswers.{FitsDatagram, Receives, Binds, J
 use crate::wire_mem::WireMem;
 use crate::{
     BindOut, Duct, DuctMem, Inbound, LinkPlan, Outside, ReadOut, RecvOut, SendOut, WriteOut,
+    are_bytes,
 };
 use std::alloc::{AllocError, Global};
 
@@ -112,7 +113,9 @@ impl Duct for OutsideMem {
         ensures wire { self.new.wire ≡ self.old.wire }
     {
         self.mark();
-        self.duct.take(buf)
+        let out = self.duct.take(buf);
+        are_bytes(buf);
+        out
     }
 
     fn write(&mut self, bytes: &[u8]) -> WriteOut

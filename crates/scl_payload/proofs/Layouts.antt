@@ -3,11 +3,11 @@ use Rattle.std.proofs.Common.{◌≡◌, ◌≤◌, ◌+◌, ◌-◌, ◌*◌, �
 use Rattle.std.specs.Prelude.{slice_index, if◌then◌else◌}
 use Rattle.std.proofs.lemmas.Bool.Decides.{nat_tests}
 use Rattle.wire_model.specs.Bytes.{IsBytes}
-use Rattle.wire_model.specs.Payload.{PayloadFields, Main as MainValues, Body as BodyValues, IsPayload, xtrac_at, pos_at}
+use Rattle.wire_model.specs.Payload.{PayloadFields, IsPayload, xtrac_at, pos_at}
 use Rattle.wire_model.specs.PayloadReading.{is_main, is_payload, payload_fields, codestream_start, is_mark_within}
 use Rattle.wire_model.proofs.PayloadLaws.{payload_is_read_one_way}
 use Rattle.wire_model.proofs.PayloadFound.{payload_reads_as_laid_out}
-use Rattle.scl_payload.specs.Heads.{fields_of, read_as}
+use Rattle.scl_payload.specs.Heads.{IsReadAs, read_as}
 use Rattle.scl_payload.specs.Judged.{judged, judged_main, judged_body}
 use Rattle.scl_payload.specs.declared.head.Payload.{Payload}
 use Rattle.scl_payload.specs.declared.head.PayloadFault.TheVariants.{Short, Extension, Pos}
@@ -71,22 +71,12 @@ is_read b r e = elim (chosen (nat_lt (length b) 8) _ _ _ e) [
   | inr p ↦ is_read_by_kind (is_main b) b r p.0 refl p.1
 ]
 
--- an answer holds the values that it was made of
-holds : (h : PayloadFields) (start : ℕ) (codestream b : List ℕ) → IsPayload h codestream b → IsPayload (fields_of (read_as h start).0) codestream b
-holds (MainValues h) start codestream b is = is
-holds (BodyValues h) start codestream b is = is
-
--- and the start
-starts : (h : PayloadFields) (start : ℕ) → (read_as h start).1 ≡ start
-starts (MainValues h) start = refl
-starts (BodyValues h) start = refl
-
 -- what is read is laid out so,
-pub found : (b : List ℕ) (r : Payload × ℕ) → IsBytes b → judged b ≡ Ok r → IsPayload (fields_of r.0) (drop r.1 b) b
+pub found : (b : List ℕ) (r : Payload × ℕ) → IsBytes b → judged b ≡ Ok r → IsReadAs r.0 (drop r.1 b) b
 found b r fits e =
     let is = is_read b r e in
     let same : read_as (payload_fields b) (codestream_start b) ≡ r = (let t = answered b is in cc) in
-    rw (sym same, starts (payload_fields b) (codestream_start b)) (holds (payload_fields b) (codestream_start b) (drop (codestream_start b) b) b (payload_reads_as_laid_out b fits is))
+    rw (sym same) (payload_fields b, refl, payload_reads_as_laid_out b fits is)
 
 -- the codestream bytes start within the bytes
 start_within : (main : Bool) (b : List ℕ) → nat_le 8 (length b) ≡ true → (if main then nat_le (8 + 4 * xtrac_at b) (length b) else is_mark_within b) ≡ true → (if main then 8 + 4 * xtrac_at b else 8) ≤ length b

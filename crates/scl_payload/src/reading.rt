@@ -3,7 +3,7 @@
 ghost use Rattle.std.specs.Prelude.{◌≡◌, ◌≤◌, ◌-◌, ◌↔◌, ℕ, List, length, drop, IfOk};
 ghost use Rattle.wire_model.specs.Payload.{PayloadFields, IsPayload, IsShortOfPayload, IsPastExtension, IsPastPos};
 ghost use Rattle.wire_model.specs.PayloadReading.{main_fields, body_fields};
-ghost use Rattle.scl_payload.specs.Heads.{main_head_of, body_head_of, fields_of, read_as};
+ghost use Rattle.scl_payload.specs.Heads.{main_head_of, body_head_of, IsReadAs, read_as};
 ghost use Rattle.scl_payload.specs.Judged.{judged, judged_main, judged_body};
 
 use crate::head::{BodyHead, MainHead, Payload, PayloadFault};
@@ -93,7 +93,7 @@ fn judge(bytes: &[u8]) -> Result<(Payload, usize), PayloadFault>
 /// The first of these that holds: `Short` at fewer than 8 bytes; `Extension` at a Main whose 8 + 4 x XTRAC
 /// bytes pass the end; `Pos` at a Body with ORDB = 1 whose POS isn't below the number of codestream bytes.
 pub fn read_payload(bytes: &[u8]) -> Result<(Payload, usize), PayloadFault>
-    ensures found { IfOk result (λ r. IsPayload (fields_of r.0) (drop r.1 bytes.now) bytes.now) }
+    ensures found { IfOk result (λ r. IsReadAs r.0 (drop r.1 bytes.now) bytes.now) }
     ensures within { IfOk result (λ r. r.1 ≤ length bytes.now) }
     ensures only { (h : PayloadFields) (codestream : List ℕ) → IsPayload h codestream bytes.now → result ≡ Ok (read_as h (length bytes.now - length codestream)) }
     ensures short { (result ≡ Err PayloadFault.Short) ↔ IsShortOfPayload bytes.now }

@@ -47,6 +47,8 @@ pub enum Reason {
     ZeroPlanes,
     /// A packet header has more than 65,536 bytes.
     PacketHeaderTooLong,
+    /// EPH doesn't follow a packet header, and the main header says that it does.
+    NoEph,
 }
 
 /// Why an input is refused, and where: an offset from its start, in bytes.

@@ -34,7 +34,6 @@ fn name_of(why: HeadWhy) -> &'static str
         HeadWhy::Precinct => "precinct",
         HeadWhy::Quant => "quant",
         HeadWhy::Sop => "sop",
-        HeadWhy::Eph => "eph",
         HeadWhy::TileHeader => "tile header",
         HeadWhy::Ids => "ids",
         HeadWhy::TooLong => "header past 8192",
@@ -99,5 +98,6 @@ pub fn push_reason(line: &mut ArrayString<64>, reason: Reason)
         Reason::RefineLong => line.push_str("refine long"),
         Reason::ZeroPlanes => line.push_str("zero planes"),
         Reason::PacketHeaderTooLong => line.push_str("packet header too long"),
+        Reason::NoEph => line.push_str("no eph"),
     }
 }

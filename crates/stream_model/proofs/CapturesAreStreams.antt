@@ -12,7 +12,8 @@ use Rattle.wire_model.proofs.Captures.{main_header, main_header_of_three, main_o
 use Rattle.wire_model.proofs.WorkedCaptures.{main_of_a_is_well_formed, main_of_a_is_read, body_of_a_is_well_formed, body_of_a_is_read, main_of_b_is_well_formed, main_of_b_is_read, first_body_of_b_is_well_formed, first_body_of_b_is_read, second_body_of_b_is_well_formed, second_body_of_b_is_read, third_body_of_b_is_well_formed, third_body_of_b_is_read, last_body_of_b_is_well_formed, last_body_of_b_is_read}
 use Rattle.codestream_model.specs.MainHeader.{SpellsHead}
 use Rattle.codestream_model.specs.PacketOrder.{pid, IsPacketOrder}
-use Rattle.codestream_model.proofs.WorkedPackets.{head_of_one, head_of_three, precinct, packet_of_one, first_packet_of_three, second_packet_of_three, third_packet_of_three}
+use Rattle.codestream_model.proofs.WorkedGeometry.{one_sample, three_samples}
+use Rattle.codestream_model.proofs.WorkedPackets.{precinct, packet_of_one, first_packet_of_three, second_packet_of_three, third_packet_of_three}
 use Rattle.stream_model.specs.Stream.{ArePartsOf, Carries, Carry, IsStream}
 use Rattle.stream_model.proofs.InTime.{both}
 use Rattle.stream_model.proofs.WorkedHeads.{header_of_one_spells, header_of_three_samples_spells, order_of_one, order_of_three, pid_of_one, first_pid_of_three, second_pid_of_three, third_pid_of_three}
@@ -33,7 +34,7 @@ abbrev pub codestream_of_one : List ℕ
 codestream_of_one = main_header ++ 200 ∷ 128 ∷ 170 ∷ 187 ∷ 255 ∷ 217 ∷ []
 
 -- where its main header is one, and has one precinct with PID 0, its parts are these,
-pub parts_are_of_one : SpellsHead head_of_one main_header → IsPacketOrder head_of_one (precinct 0 ∷ []) → ArePartsOf parts_of_one codestream_of_one
+pub parts_are_of_one : SpellsHead one_sample main_header → IsPacketOrder one_sample (precinct 0 ∷ []) → ArePartsOf parts_of_one codestream_of_one
 parts_are_of_one head order = record {
   is_head = head;
   order = order;
@@ -43,7 +44,7 @@ parts_are_of_one head order = record {
 }
 
 -- the first capture carries it,
-one_is_carried : 0 ≡ pid head_of_one (precinct 0) → Carries sent_of_one
+one_is_carried : 0 ≡ pid one_sample (precinct 0) → Carries sent_of_one
 one_is_carried names = record {
   main = tt;
   header = refl;
@@ -54,7 +55,7 @@ one_is_carried names = record {
 }
 
 -- and is a stream
-first_capture : SpellsHead head_of_one main_header → IsPacketOrder head_of_one (precinct 0 ∷ []) → 0 ≡ pid head_of_one (precinct 0) → Carry (sent_of_one ∷ []) (codestream_of_one ∷ []) (main_of_a ∷ body_of_a ∷ [])
+first_capture : SpellsHead one_sample main_header → IsPacketOrder one_sample (precinct 0 ∷ []) → 0 ≡ pid one_sample (precinct 0) → Carry (sent_of_one ∷ []) (codestream_of_one ∷ []) (main_of_a ∷ body_of_a ∷ [])
 unfolding IsDistinct main_header main_of_a body_of_a
 first_capture head order names = record {
   source = 1;
@@ -77,7 +78,7 @@ unfolding main_header
 first_capture_is_a_stream = (sent_of_one ∷ [], first_capture header_of_one_spells order_of_one pid_of_one)
 
 -- the codestream of three packets,
-pub parts_are_of_three : SpellsHead head_of_three main_header_of_three → IsPacketOrder head_of_three (precinct 0 ∷ precinct 1 ∷ precinct 2 ∷ []) → ArePartsOf parts_of_three codestream_of_b
+pub parts_are_of_three : SpellsHead three_samples main_header_of_three → IsPacketOrder three_samples (precinct 0 ∷ precinct 1 ∷ precinct 2 ∷ []) → ArePartsOf parts_of_three codestream_of_b
 unfolding codestream_of_b
 parts_are_of_three head order = record {
   is_head = head;
@@ -88,7 +89,7 @@ parts_are_of_three head order = record {
 }
 
 -- which the second capture carries,
-three_are_carried : 0 ≡ pid head_of_three (precinct 0) → 1 ≡ pid head_of_three (precinct 1) → 2 ≡ pid head_of_three (precinct 2) → Carries (sent_of_three 0 0)
+three_are_carried : 0 ≡ pid three_samples (precinct 0) → 1 ≡ pid three_samples (precinct 1) → 2 ≡ pid three_samples (precinct 2) → Carries (sent_of_three 0 0)
 unfolding codestream_of_b main_header_of_three
 three_are_carried first second third = record {
   main = tt;

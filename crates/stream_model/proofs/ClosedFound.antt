@@ -4,6 +4,8 @@ use Rattle.std.specs.Prelude.{MatchResult}
 use Rattle.std.specs.List.{AllZip}
 use Rattle.std.proofs.lemmas.Bool.{cases_lt}
 use Rattle.std.proofs.lemmas.List.{append-nil, length-append, take-append-drop}
+use Rattle.codestream_model.specs.MarkedHeader.{marked_header_of, NeedsMarkedHeaderBytes}
+use Rattle.codestream_model.proofs.Marked.{marked_read, marked_needs_read}
 use Rattle.codestream_model.specs.Values.{Head, Place}
 use Rattle.codestream_model.specs.Bytes.{IsBytes}
 use Rattle.codestream_model.specs.MainHeader.{SpellsHead}
@@ -12,14 +14,11 @@ use Rattle.codestream_model.specs.RefusedHeader.{RefusesHead}
 use Rattle.codestream_model.specs.Precincts.{grids}
 use Rattle.codestream_model.specs.PacketOrder.{packet_order, IsPacketOrder}
 use Rattle.codestream_model.specs.PacketHeader.{NeedsHeaderBytes}
-use Rattle.codestream_model.specs.PacketHeaderReading.{header_of}
 use Rattle.codestream_model.specs.Packet.{Content}
 use Rattle.codestream_model.specs.Codestream.{WalkRefusal, TooManyBlocks, HeaderRefused, PacketTooLong, joined}
 use Rattle.codestream_model.proofs.SegmentBytes.{bytes-drop}
 use Rattle.codestream_model.proofs.HeaderJudged.{headers_are_judged, header_is_not_refused}
 use Rattle.codestream_model.proofs.HeaderLimits.{header_has_components}
-use Rattle.codestream_model.proofs.HeaderLemmas.{header_read}
-use Rattle.codestream_model.proofs.BytesJudged.{needs_read}
 use Rattle.codestream_model.proofs.BytesBack.{done_need}
 use Rattle.codestream_model.proofs.Orders.{packet_order_is_computed}
 use Rattle.codestream_model.proofs.OwnBands.{own_bands}
@@ -33,18 +32,18 @@ use Rattle.stream_model.proofs.CodestreamParts.{spelled_has_parts}
 use Rattle.stream_model.proofs.CutPayloads.{joined-append}
 
 -- where a packet is refused nothing of it is there
-pub refused_opens : (h : Head) (p : Place) (later : List Place) (rest : List ℕ) (why : WalkRefusal) → packet_step (grids h p) rest ≡ Faulty why → IsOpened h (p ∷ later) rest []
+pub refused_opens : (h : Head) (p : Place) (later : List Place) (rest : List ℕ) (why : WalkRefusal) → packet_step h p rest ≡ Faulty why → IsOpened h (p ∷ later) rest []
 refused_opens h p later rest why e = inr (
-  λ t. (let s : packet_step (grids h p) rest ≡ Short = step_short (grids h p) rest (own_bands h p) (record { few_blocks = t.begins.few_blocks; unfinished = inr t }) in let c : Faulty why ≡ Short = sym e ∙ s in absurd (cc)),
-  λ x packet more s f. (let c : Faulty why ≡ Fits (length packet) = sym e ∙ (ap (packet_step (grids h p)) f ∙ step_fits h p x packet more s) in absurd (cc)),
+  λ t. (let s : packet_step h p rest ≡ Short = step_short h p rest (record { few_blocks = t.begins.few_blocks; unfinished = inr t }) in let c : Faulty why ≡ Short = sym e ∙ s in absurd (cc)),
+  λ x packet more s f. (let c : Faulty why ≡ Fits (length packet) = sym e ∙ (ap (packet_step h p) f ∙ step_fits h p x packet more s) in absurd (cc)),
   refl,
 )
 
 -- nor where its header isn't whole
-pub unfinished_opens : (h : Head) (p : Place) (later : List Place) (rest : List ℕ) → NeedsHeaderBytes (grids h p) rest → packet_step (grids h p) rest ≡ Short → IsOpened h (p ∷ later) rest []
+pub unfinished_opens : (h : Head) (p : Place) (later : List Place) (rest : List ℕ) → NeedsMarkedHeaderBytes (grids h p) h.eph rest → packet_step h p rest ≡ Short → IsOpened h (p ∷ later) rest []
 unfinished_opens h p later rest n e = inr (
-  λ t. done_need (length t.header) t.blocks (sym (ap (header_of (grids h p)) t.begins.whole ∙ header_read (grids h p) t.blocks t.header t.rest (own_bands h p) t.begins.is_header) ∙ needs_read (grids h p) rest (own_bands h p) n),
-  λ x packet more s f. (let c : Short ≡ Fits (length packet) = sym e ∙ (ap (packet_step (grids h p)) f ∙ step_fits h p x packet more s) in absurd (cc)),
+  λ t. done_need (length t.header) t.blocks (sym (ap (marked_header_of (grids h p) h.eph) t.begins.whole ∙ marked_read (grids h p) h.eph t.blocks t.header t.rest (own_bands h p) t.begins.is_header) ∙ marked_needs_read (grids h p) h.eph rest (own_bands h p) n),
+  λ x packet more s f. (let c : Short ≡ Fits (length packet) = sym e ∙ (ap (packet_step h p) f ∙ step_fits h p x packet more s) in absurd (cc)),
   refl,
 )
 
@@ -84,11 +83,11 @@ opens h (p ∷ places) bytes fits = elim (what_stands h p bytes fits) [
         whole = e ∙ (ap (λ (l : List ℕ). packet ++ l) r.whole ∙ sym (append_assoc packet (joined r.packets) r.rest));
         is_opened = r.is_opened;
       }
-  | HasMany many ↦ stops_at h (p ∷ places) bytes [] (refused_opens h p places bytes TooManyBlocks (step_many (grids h p) bytes many))
-  | IsRefused why few t ↦ stops_at h (p ∷ places) bytes [] (refused_opens h p places bytes (HeaderRefused why) (step_refused (grids h p) bytes why (own_bands h p) few t))
-  | IsLong t ↦ stops_at h (p ∷ places) bytes [] (refused_opens h p places bytes PacketTooLong (step_long (grids h p) bytes (own_bands h p) t))
+  | HasMany many ↦ stops_at h (p ∷ places) bytes [] (refused_opens h p places bytes TooManyBlocks (step_many h p bytes many))
+  | IsRefused why few t ↦ stops_at h (p ∷ places) bytes [] (refused_opens h p places bytes (HeaderRefused why) (step_refused h p bytes why few t))
+  | IsLong t ↦ stops_at h (p ∷ places) bytes [] (refused_opens h p places bytes PacketTooLong (step_long h p bytes t))
   | IsShort n ↦ elim n.unfinished [
-    | inl t ↦ stops_at h (p ∷ places) bytes [] (unfinished_opens h p places bytes t (step_short (grids h p) bytes (own_bands h p) n))
+    | inl t ↦ stops_at h (p ∷ places) bytes [] (unfinished_opens h p places bytes t (step_short h p bytes n))
     | inr t ↦ stops_at h (p ∷ places) bytes (record { place = p; bytes = bytes } ∷ []) (inl (t, refl))
   ]
 ]

@@ -4,6 +4,7 @@ use Rattle.std.specs.List.{AllByRecursion, AllZip, flat_map}
 use Rattle.std.proofs.lemmas.Bool.{le-leb, cases_lt}
 use Rattle.std.proofs.lemmas.List.{append-nil, length-append, map-append, take_all}
 use Rattle.wire_model.specs.Datagram.{Datagram}
+use Rattle.codestream_model.proofs.PacketsOneWay.{one_packet}
 use Rattle.codestream_model.specs.Values.{Head, Place}
 use Rattle.codestream_model.specs.MainHeader.{SpellsHead}
 use Rattle.codestream_model.specs.PacketOrder.{IsPacketOrder}
@@ -11,7 +12,7 @@ use Rattle.codestream_model.specs.Packet.{Content}
 use Rattle.codestream_model.specs.Codestream.{IsCodestream, joined}
 use Rattle.codestream_model.proofs.HeaderJudged.{header_is_one}
 use Rattle.codestream_model.proofs.Orders.{packet_order_is_one}
-use Rattle.codestream_model.proofs.OneWayLemmas.{same_front, one_packet}
+use Rattle.codestream_model.proofs.OneWayLemmas.{same_front}
 use Rattle.codestream_model.proofs.OwnBands.{own_bands}
 use Rattle.codestream_model.proofs.Inputs.{lists_agree, codestream_long}
 use Rattle.stream_model.specs.Stream.{Parts, ArePackets, ArePartsOf, bytes_after_sod, datagrams_of}
@@ -32,7 +33,7 @@ same_packets : (h : Head) (places : List Place) (content said : List Content) (p
 same_packets h [] [] [] [] [] rest tail a b e = (refl, refl)
 same_packets h (p ∷ places) (x ∷ content) (y ∷ said) (c ∷ packets) (d ∷ seen) rest tail a b e =
     let split : c ++ (joined packets ++ rest) ≡ d ++ (joined seen ++ tail) = sym (append_assoc c (joined packets) rest) ∙ (e ∙ append_assoc d (joined seen) tail) in
-    let one = one_packet h p x y c d (joined packets ++ rest) (joined seen ++ tail) (own_bands h p) a.0 b.0 split in
+    let one = one_packet h p x y c d (joined packets ++ rest) (joined seen ++ tail) a.0 b.0 split in
     let behind = (same_front c d (joined packets ++ rest) (joined seen ++ tail) (ap length one.0) split).1 in
     let r = same_packets h places content said packets seen rest tail a.1 b.1 behind in
     let e : c ≡ d = one.0 in

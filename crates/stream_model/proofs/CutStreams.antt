@@ -1,5 +1,5 @@
 -- The cut of codestreams is a stream that carries them.
-use Rattle.std.proofs.Common.{◌≡◌, ◌<◌, ◌≤◌, ◌+◌, ◌-◌, ◌*◌, ◌%◌, ◌^◌, ℕ, zero, suc, false, List, [], ◌∷◌, ◌++◌, map, length, take, refl, sym, subst, ap, ◌∙◌, arith}
+use Rattle.std.proofs.Common.{inl, inr, ◌≡◌, ◌<◌, ◌≤◌, ◌+◌, ◌-◌, ◌*◌, ◌%◌, ◌^◌, ℕ, zero, suc, false, List, [], ◌∷◌, ◌++◌, map, length, take, refl, sym, subst, ap, ◌∙◌, arith}
 use Rattle.std.specs.Prelude.{◌==◌}
 use Rattle.std.specs.List.{AllByRecursion, AllZip, IsDistinct, flat_map, sum_by, range_with_len, enumerate_from}
 use Rattle.std.proofs.Math.Nat.{mul-le-mul}
@@ -7,9 +7,11 @@ use Rattle.std.proofs.lemmas.Bool.{eqb-true}
 use Rattle.std.proofs.lemmas.List.{length-append, length-map, map-append}
 use Rattle.std.proofs.lemmas.List.Folds.{flat_map-map}
 use Rattle.std.proofs.lemmas.List.Sums.{sum_by-cons}
+use Rattle.codestream_model.proofs.TreeLemmas.{either}
+use Rattle.codestream_model.specs.Values.{Head}
 use Rattle.wire_model.specs.Datagram.{Datagram, IsDatagram}
 use Rattle.stream_model.specs.Stream.{Parts, ArePartsOf, Sent, datagrams_of, IsBodyPayload, Mark, IsResync, extended_number, mark_of, marks, payload_start, bytes_after_sod, Carries, Carry}
-use Rattle.stream_model.specs.Cut.{Plan, IsPlan, known_of, payloads, number_at, main_at, bodies_at, stamp_at, position_of, sent_by, datagram_bytes}
+use Rattle.stream_model.specs.Cut.{Plan, IsPlan, known_of, payloads, number_at, main_at, bodies_at, stamp_at, position_of, sent_by, datagram_bytes, ordh_of}
 use Rattle.stream_model.specs.Laws.{CutIsStream}
 use Rattle.stream_model.proofs.Sendable.{IsSendable, all_sendable}
 use Rattle.stream_model.proofs.Bases.{not_true}
@@ -104,6 +106,10 @@ all_parts p i at [] (b ∷ codestreams) a = absurd a
 all_parts p i at (c ∷ parts) [] a = absurd a
 all_parts p i at (c ∷ parts) (b ∷ codestreams) a = (a.0, all_parts p (i + 1) (at + count_of p c) parts codestreams a.1)
 
+-- ORDH fits its field
+ordh_fits : (h : Head) → ordh_of h < 2 ^ 3
+ordh_fits h = elim (either (h.order == 2)) [ inl t ↦ rw t (omega arith) | inr t ↦ rw t (omega arith) ]
+
 -- its datagrams fit,
 sent_fits : (p : Plan) (i at : ℕ) (c : Parts) (codestream : List ℕ) → IsPlan p → ArePartsOf c codestream → IsSendable p c → AllByRecursion FitDatagram (datagrams_of (the_sent p i at c))
 sent_fits p i at c codestream r a s =
@@ -114,7 +120,7 @@ sent_fits p i at c codestream r a s =
     let stamp : ℕ = stamp_at p i in
     let bs : List (List ℕ) = payloads p (known_of c) in
     let P : List Datagram → Type 0 = AllByRecursion FitDatagram in (
-      (rtp_fits p stamp at false r (stamp_fits p i), (refl, number_fits p at), omega arith),
+      (rtp_fits p stamp at false r (stamp_fits p i), (refl, number_fits p at, ordh_fits c.head), omega arith),
       subst P (sym (bodies_placed p stamp at (known_of c))) (bodies_fit p stamp at c 0 0 bs r s (stamp_fits p i) (payloads_are_whole p c (omega arith) same).1),
     )
 

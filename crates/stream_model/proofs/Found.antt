@@ -6,6 +6,7 @@ use Rattle.std.proofs.lemmas.Bool.{lt-ltb, ltb-true}
 use Rattle.std.proofs.lemmas.List.{length-append, get_or-map}
 use Rattle.std.proofs.lemmas.List.FromFn.{length-range_with_len, get_or-range_with_len, get_or-map-range_with_len}
 use Rattle.std.proofs.lemmas.List.Sums.{sum_by-cons, prefix_len_is}
+use Rattle.codestream_model.specs.MarkedHeader.{end_marker}
 use Rattle.wire_model.specs.Datagram.{Datagram, IsDatagram, datagram_of}
 use Rattle.wire_model.proofs.DatagramLaws.{datagram_is_computed}
 use Rattle.wire_model.proofs.RtpLaws.{rtp_is_read_one_way}
@@ -24,8 +25,9 @@ some_bytes xs y ys = omega (arith, length-append xs (y ∷ ys))
 
 pub packet_has_bytes : (h : Head) (p : Place) (x : Content) (b : List ℕ) → SpellsPacket h p x b → 1 ≤ length b
 packet_has_bytes h p x b r =
-    let packs = r.is_header.packs in
-    let header : 1 ≤ length r.header = (let P : List ℕ → Type 0 = λ ys. 1 ≤ length ys in subst P (sym packs.whole) (some_bytes packs.front packs.last packs.closing)) in
+    let packs = r.is_header.is_header.packs in
+    let some : 1 ≤ length r.is_header.header = (let P : List ℕ → Type 0 = λ ys. 1 ≤ length ys in subst P (sym packs.whole) (some_bytes packs.front packs.last packs.closing)) in
+    let header : 1 ≤ length r.header = omega (arith, ap length r.is_header.whole, length-append r.is_header.header (end_marker h.eph)) in
     let all : length b ≡ length r.header + length x.bytes = ap (λ ys. length ys) r.whole ∙ length-append r.header x.bytes in
     omega arith
 

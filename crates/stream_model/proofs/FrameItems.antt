@@ -17,6 +17,7 @@ use Rattle.codestream_model.proofs.HeaderJudged.{headers_are_judged}
 use Rattle.codestream_model.proofs.HeaderLimits.{header_is_within_limits}
 use Rattle.codestream_model.proofs.Orders.{packet_order_is_computed}
 use Rattle.codestream_model.proofs.TreeLemmas.{either, equal_number}
+use Rattle.codestream_model.proofs.BytesLemmas.{bytes_join}
 use Rattle.stream_model.specs.Stream.{IsMainPayload, IsBodyPayload, extended_number}
 use Rattle.stream_model.specs.Reading.{IsAmong, IsBodyWith}
 use Rattle.stream_model.specs.Decoder.{Current, Mark, Decoder, at_start, one_more, without_head, take_header, take_main, set_mark, join_bytes, place_of, take_body, take_gap}
@@ -24,12 +25,7 @@ use Rattle.stream_model.specs.Receiver.{decoded}
 use Rattle.stream_model.proofs.FrameRuns.{HeadCame, RunIs, MarkIs, IsNext, after_next, run_push, mark_push}
 use Rattle.stream_model.proofs.FrameRules.{HeadIs, DecoderIs}
 
--- bytes behind bytes
-bytes_join : (xs ys : List ℕ) → IsBytes xs → IsBytes ys → IsBytes (xs ++ ys)
-bytes_join [] ys a b i = b i
-bytes_join (x ∷ xs) ys a b zero = a zero
-bytes_join (x ∷ xs) ys a b (suc i) = bytes_join xs ys (λ j. a (suc j)) b i
-
+-- no bytes are bytes
 no_bytes : IsBytes []
 no_bytes i = omega arith
 

@@ -10,7 +10,7 @@ use Rattle.std.proofs.lemmas.List.Folds.{flat_map-map}
 use Rattle.wire_model.specs.Datagram.{Datagram}
 use Rattle.codestream_model.specs.Codestream.{joined}
 use Rattle.codestream_model.proofs.TreeLemmas.{either}
-use Rattle.stream_model.specs.Cut.{Plan, Piece, Known, room, stretches, with_eoc, chunks, closed_payloads, payloads, touched, started, res_of, body_header, number_at, main_at, body_at, bodies_at, stamp_at, position_of, datagrams_by, sendable}
+use Rattle.stream_model.specs.Cut.{Plan, Piece, Known, room, stretches, with_eoc, chunks, closed_payloads, payloads, touched, started, res_of, body_header, number_at, main_at, body_at, bodies_at, stamp_at, position_of, datagrams_by, sendable, ordh_of}
 use Rattle.stream_model.specs.Laws.{HasGrown}
 use Rattle.stream_model.proofs.Bases.{not_true}
 use Rattle.stream_model.proofs.Positions.{placed, are_placed}
@@ -209,7 +209,8 @@ one_front p i at c d more some e h f grown = elim (either (nat_le (length c.head
   | inl t ↦
       let u : nat_le (length d.header) (room p) ≡ true = ap (λ l. nat_le (length l) (room p)) (sym f) ∙ t in
       let b = bodies_front p (stamp_at p i) at c d some e h grown in
-      let main : main_at p (stamp_at p i) at c ≡ main_at p (stamp_at p i) at d = rw f refl in
+      let e_order : ordh_of c.head ≡ ordh_of d.head = ap ordh_of h in
+      let main : main_at p (stamp_at p i) at c ≡ main_at p (stamp_at p i) at d = rw (e_order, f) refl in
       let rest = all_of p (i + 1) (at + many_of p d) (sendable p more) in
       let P : List Known → Type 0 = λ l. Begins (all_of p i at l) (all_of p i at (sendable p (d ∷ more))) in
       let Q : List Known → Type 0 = λ l. Begins (all_of p i at (c ∷ [])) (all_of p i at l) in

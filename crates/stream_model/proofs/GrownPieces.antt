@@ -2,31 +2,32 @@
 use Rattle.std.proofs.Common.{◌≡◌, ◌⊎◌, ℕ, List, [], ◌∷◌, ◌++◌, length, take, drop, subst, refl, sym, ◌∙◌, ap, inl, inr, arith, append_assoc}
 use Rattle.std.proofs.lemmas.Bool.{cases_lt}
 use Rattle.std.proofs.lemmas.List.{append-nil, length-append, length-take, take-append-drop}
+use Rattle.codestream_model.proofs.PacketsOneWay.{one_marked, one_packet}
 use Rattle.codestream_model.specs.Values.{Head, Place}
 use Rattle.codestream_model.specs.Precincts.{grids}
 use Rattle.codestream_model.specs.Packet.{Content, segment_bytes, SpellsPacket, BeginsPacket, LacksSegments}
 use Rattle.codestream_model.specs.Codestream.{joined}
-use Rattle.codestream_model.proofs.OneWayLemmas.{fronts, same_front, one_header, one_packet}
+use Rattle.codestream_model.proofs.OneWayLemmas.{fronts, same_front}
 use Rattle.codestream_model.proofs.OwnBands.{own_bands}
 use Rattle.stream_model.specs.Stream.{ArePackets}
 use Rattle.stream_model.specs.Cut.{Piece, pieces_of, IsOpened}
 use Rattle.stream_model.specs.Laws.{HasGrown}
 
 -- where a packet stands whole its segments aren't lacking
-whole_lacks_none : (h : Head) (p : Place) (x : Content) (packet more bytes : List ℕ) → SpellsPacket h p x packet → bytes ≡ packet ++ more → LacksSegments (grids h p) bytes → ⊥
+whole_lacks_none : (h : Head) (p : Place) (x : Content) (packet more bytes : List ℕ) → SpellsPacket h p x packet → bytes ≡ packet ++ more → LacksSegments h p bytes → ⊥
 whole_lacks_none h p x packet more bytes s e t =
     let split : t.header ++ t.rest ≡ s.header ++ (x.bytes ++ more) = sym t.begins.whole ∙ (e ∙ (ap (λ (l : List ℕ). l ++ more) s.whole ∙ append_assoc s.header x.bytes more)) in
-    let one = one_header (grids h p) t.blocks x.blocks t.header s.header t.rest (x.bytes ++ more) (own_bands h p) t.begins.is_header s.is_header split in
+    let one = one_marked (grids h p) h.eph t.blocks x.blocks t.header s.header t.rest (x.bytes ++ more) (own_bands h p) t.begins.is_header s.is_header split in
     let behind = (same_front t.header s.header t.rest (x.bytes ++ more) (ap length one.0) split).1 in
     omega (arith, t.lacks, ap segment_bytes one.1, s.segments, ap length behind, length-append x.bytes more)
 
 -- with more bytes the segments are still lacking, or the packet stands whole
-lacks_or_whole : (h : Head) (p : Place) (bytes more : List ℕ) → LacksSegments (grids h p) bytes
-    → LacksSegments (grids h p) (bytes ++ more) ⊎ ((x : Content) × (packet : List ℕ) × (rest : List ℕ) × SpellsPacket h p x packet × (bytes ++ more ≡ packet ++ rest))
+lacks_or_whole : (h : Head) (p : Place) (bytes more : List ℕ) → LacksSegments h p bytes
+    → LacksSegments h p (bytes ++ more) ⊎ ((x : Content) × (packet : List ℕ) × (rest : List ℕ) × SpellsPacket h p x packet × (bytes ++ more ≡ packet ++ rest))
 lacks_or_whole h p bytes more t =
     let behind = t.rest ++ more in
     let split : bytes ++ more ≡ t.header ++ behind = ap (λ (l : List ℕ). l ++ more) t.begins.whole ∙ append_assoc t.header t.rest more in
-    let begins : BeginsPacket (grids h p) t.blocks t.header behind (bytes ++ more) = record { few_blocks = t.begins.few_blocks; is_header = t.begins.is_header; whole = split } in
+    let begins : BeginsPacket h p t.blocks t.header behind (bytes ++ more) = record { few_blocks = t.begins.few_blocks; is_header = t.begins.is_header; whole = split } in
     elim (cases_lt (length behind) (segment_bytes t.blocks)) [
       | inl lacks ↦ inl (record { blocks = t.blocks; header = t.header; rest = behind; begins = begins; fits = t.fits; lacks = lacks })
       | inr there ↦
@@ -109,7 +110,7 @@ pieces_grow h (p ∷ before) later known_later (q ∷ known) (x ∷ content) (y 
     let S : Place → Type 0 = λ r. SpellsPacket h r y d in
     let split : c ++ ((joined packets ++ rest) ++ more) ≡ d ++ (joined seen ++ tail) =
     sym (ap (λ (l : List ℕ). l ++ more) (append_assoc c (joined packets) rest) ∙ append_assoc c (joined packets ++ rest) more) ∙ (e ∙ append_assoc d (joined seen) tail) in
-    let one = (one_packet h p x y c d ((joined packets ++ rest) ++ more) (joined seen ++ tail) (own_bands h p) a.0 (subst S (sym order.0) b.0) split).0 in
+    let one = (one_packet h p x y c d ((joined packets ++ rest) ++ more) (joined seen ++ tail) a.0 (subst S (sym order.0) b.0) split).0 in
     let behind = (same_front c d ((joined packets ++ rest) ++ more) (joined seen ++ tail) (ap length one) split).1 in
     grown_as p q c d (pieces_of before packets ++ opened) (pieces_of known seen ++ now) order.0 one (pieces_grow h before later known_later known content said packets seen rest tail more opened now a.1 b.1 order.1 behind f g)
 pieces_grow h [] later known_later known [] said (c ∷ packets) seen rest tail more opened now a b o e f g = absurd a

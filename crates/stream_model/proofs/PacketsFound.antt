@@ -2,24 +2,22 @@
 use Rattle.std.proofs.Common.{◌≡◌, ◌≤◌, ◌+◌, ◌-◌, ℕ, Bool, true, false, List, [], ◌∷◌, ◌++◌, length, take, drop, nat_le, nat_lt, subst, refl, sym, ◌∙◌, ap, inl, inr, arith, append_assoc, if◌then◌else◌}
 use Rattle.std.proofs.lemmas.Bool.{cases_lt, le-leb, lt-leb}
 use Rattle.std.proofs.lemmas.List.{length-append, length-take, take_at, drop_at, take-append-drop}
+use Rattle.codestream_model.specs.MarkedHeader.{marked_header_of}
+use Rattle.codestream_model.proofs.Marked.{marked_read, marked_needs_read, marked_refusal_read, marked_needs_sound, marked_refusal_sound, marked_sound}
 use Rattle.codestream_model.specs.Values.{Head, Place, Grid, Block}
 use Rattle.codestream_model.specs.Bytes.{IsBytes}
 use Rattle.codestream_model.specs.Precincts.{grids}
 use Rattle.codestream_model.specs.PacketHeader.{HaveOwnBands}
-use Rattle.codestream_model.specs.PacketHeaderReading.{HeaderReading, Done, Need, Bad, header_of}
+use Rattle.codestream_model.specs.PacketHeaderReading.{HeaderReading, Done, Need, Bad}
 use Rattle.codestream_model.specs.Packet.{Content, HasFewBlocks, block_count, segment_bytes, SpellsPacket, BeginsPacket, NeedsPacketBytes}
-use Rattle.codestream_model.proofs.HeaderLemmas.{header_read}
-use Rattle.codestream_model.proofs.SoundLemmas.{header_sound}
 use Rattle.codestream_model.proofs.OwnBands.{own_bands}
 use Rattle.stream_model.specs.Decoder.{Found, Whole, Part, Other, found_segments, found_header, found_packet}
-use Rattle.codestream_model.proofs.BytesJudged.{refusal_read, needs_read}
-use Rattle.codestream_model.proofs.BytesBack.{refusal_sound, needs_sound}
 use Rattle.stream_model.specs.CommandLaws.{BeginsWithPacket}
 use Rattle.stream_model.specs.ReceiverLaws.{FoundIs, FoundIsWhatStands}
 use Rattle.stream_model.proofs.Found.{packet_has_bytes}
 
 -- what is found in some bytes
-pub found_some : (h : Head) (p : Place) (bytes : List ℕ) → 1 ≤ length bytes → found_packet h p bytes ≡ (if nat_lt 65536 (block_count (grids h p)) then Other else found_header bytes (header_of (grids h p) bytes))
+pub found_some : (h : Head) (p : Place) (bytes : List ℕ) → 1 ≤ length bytes → found_packet h p bytes ≡ (if nat_lt 65536 (block_count (grids h p)) then Other else found_header bytes (marked_header_of (grids h p) h.eph bytes))
 unfolding found_packet
 found_some h p [] some = absurd (omega arith)
 found_some h p (b ∷ bytes) some = refl
@@ -33,12 +31,12 @@ pub packet_found : (h : Head) (p : Place) (x : Content) (packet rest : List ℕ)
 packet_found h p x packet rest s =
     let some : 1 ≤ length (packet ++ rest) = omega (arith, packet_has_bytes h p x packet s, length-append packet rest) in
     let few : nat_lt 65536 (block_count (grids h p)) ≡ false = lt-leb 65537 (block_count (grids h p)) (omega (arith, s.few_blocks)) in
-    let header : header_of (grids h p) (packet ++ rest) ≡ Done (length s.header) x.blocks = ap (header_of (grids h p)) (packet_split h p x packet rest s) ∙ header_read (grids h p) x.blocks s.header (x.bytes ++ rest) (own_bands h p) s.is_header in
+    let header : marked_header_of (grids h p) h.eph (packet ++ rest) ≡ Done (length s.header) x.blocks = ap (marked_header_of (grids h p) h.eph) (packet_split h p x packet rest s) ∙ marked_read (grids h p) h.eph x.blocks s.header (x.bytes ++ rest) (own_bands h p) s.is_header in
     let size : length s.header + segment_bytes x.blocks ≡ length packet = omega (arith, s.segments, ap length s.whole, length-append s.header x.bytes) in
     let short : nat_lt 16777216 (length packet) ≡ false = lt-leb 16777217 (length packet) (omega (arith, s.short)) in
     let there : nat_le (length packet) (length (packet ++ rest)) ≡ true = le-leb (length packet) (length (packet ++ rest)) (omega (arith, length-append packet rest)) in
     found_some h p (packet ++ rest) some
-    ∙ (ap (λ (b : Bool). if b then Other else found_header (packet ++ rest) (header_of (grids h p) (packet ++ rest))) few
+    ∙ (ap (λ (b : Bool). if b then Other else found_header (packet ++ rest) (marked_header_of (grids h p) h.eph (packet ++ rest))) few
     ∙ (ap (found_header (packet ++ rest)) header
     ∙ (ap (λ (n : ℕ). found_segments (packet ++ rest) x.blocks (length s.header) n) size
     ∙ rw (short, there) refl)))
@@ -54,36 +52,36 @@ segments_taken h p x packet rest s =
     )
 
 -- what is found by the answer to its header
-found_by : (h : Head) (p : Place) (bytes : List ℕ) (r : HeaderReading) → 1 ≤ length bytes → HasFewBlocks (grids h p) → header_of (grids h p) bytes ≡ r → found_packet h p bytes ≡ found_header bytes r
+found_by : (h : Head) (p : Place) (bytes : List ℕ) (r : HeaderReading) → 1 ≤ length bytes → HasFewBlocks h p → marked_header_of (grids h p) h.eph bytes ≡ r → found_packet h p bytes ≡ found_header bytes r
 found_by h p bytes r some few e =
     let not_many : nat_lt 65536 (block_count (grids h p)) ≡ false = lt-leb 65537 (block_count (grids h p)) (omega (arith, few)) in
-    found_some h p bytes some ∙ (ap (λ (b : Bool). if b then Other else found_header bytes (header_of (grids h p) bytes)) not_many ∙ ap (found_header bytes) e)
+    found_some h p bytes some ∙ (ap (λ (b : Bool). if b then Other else found_header bytes (marked_header_of (grids h p) h.eph bytes)) not_many ∙ ap (found_header bytes) e)
 
 -- bytes that begin with a header are read so
-begun : (gs : List Grid) (bytes header rest : List ℕ) (blocks : List Block) → HaveOwnBands gs → BeginsPacket gs blocks header rest bytes → header_of gs bytes ≡ Done (length header) blocks
-begun gs bytes header rest blocks bands b = ap (header_of gs) b.whole ∙ header_read gs blocks header rest bands b.is_header
+begun : (h : Head) (p : Place) (bytes header rest : List ℕ) (blocks : List Block) → BeginsPacket h p blocks header rest bytes → marked_header_of (grids h p) h.eph bytes ≡ Done (length header) blocks
+begun h p bytes header rest blocks b = ap (marked_header_of (grids h p) h.eph) b.whole ∙ marked_read (grids h p) h.eph blocks header rest (own_bands h p) b.is_header
 
 -- where less than a packet stands it is found,
-part_found : (h : Head) (p : Place) (bytes : List ℕ) → 1 ≤ length bytes → NeedsPacketBytes (grids h p) bytes → found_packet h p bytes ≡ Part
+part_found : (h : Head) (p : Place) (bytes : List ℕ) → 1 ≤ length bytes → NeedsPacketBytes h p bytes → found_packet h p bytes ≡ Part
 part_found h p bytes some n = elim n.unfinished [
-  | inl t ↦ found_by h p bytes Need some n.few_blocks (needs_read (grids h p) bytes (own_bands h p) t)
+  | inl t ↦ found_by h p bytes Need some n.few_blocks (marked_needs_read (grids h p) h.eph bytes (own_bands h p) t)
   | inr t ↦
       let size = length t.header + segment_bytes t.blocks in
       let short : nat_lt 16777216 size ≡ false = lt-leb 16777217 size (omega (arith, t.fits)) in
       let lacks : nat_le size (length bytes) ≡ false = lt-leb size (length bytes) (omega (arith, t.lacks, ap length t.begins.whole, length-append t.header t.rest)) in
-      found_by h p bytes (Done (length t.header) t.blocks) some n.few_blocks (begun (grids h p) bytes t.header t.rest t.blocks (own_bands h p) t.begins) ∙ rw (short, lacks) refl
+      found_by h p bytes (Done (length t.header) t.blocks) some n.few_blocks (begun h p bytes t.header t.rest t.blocks t.begins) ∙ rw (short, lacks) refl
 ]
 
 -- and so is something else
 other_found : (h : Head) (p : Place) (bytes : List ℕ) → FoundIs h p bytes Other → found_packet h p bytes ≡ Other
 other_found h p bytes (some, inl many) =
     let too_many : nat_lt 65536 (block_count (grids h p)) ≡ true = le-leb 65537 (block_count (grids h p)) (omega arith) in
-    found_some h p bytes some ∙ ap (λ (b : Bool). if b then Other else found_header bytes (header_of (grids h p) bytes)) too_many
-other_found h p bytes (some, inr (few, inl (why, r))) = found_by h p bytes (Bad why) some few (refusal_read (grids h p) bytes why (own_bands h p) r)
+    found_some h p bytes some ∙ ap (λ (b : Bool). if b then Other else found_header bytes (marked_header_of (grids h p) h.eph bytes)) too_many
+other_found h p bytes (some, inr (few, inl (why, r))) = found_by h p bytes (Bad why) some few (marked_refusal_read (grids h p) h.eph bytes why (own_bands h p) r)
 other_found h p bytes (some, inr (few, inr t)) =
     let size = length t.header + segment_bytes t.blocks in
     let long : nat_lt 16777216 size ≡ true = le-leb 16777217 size (omega (arith, t.long)) in
-    found_by h p bytes (Done (length t.header) t.blocks) some few (begun (grids h p) bytes t.header t.rest t.blocks (own_bands h p) t.begins) ∙ rw long refl
+    found_by h p bytes (Done (length t.header) t.blocks) some few (begun h p bytes t.header t.rest t.blocks t.begins) ∙ rw long refl
 
 -- what stands there is found
 pub stands_found : (h : Head) (p : Place) (bytes : List ℕ) (f : Found) → FoundIs h p bytes f → found_packet h p bytes ≡ f
@@ -96,13 +94,13 @@ stands_found h p (b ∷ bytes) Part (inr n) = part_found h p (b ∷ bytes) (omeg
 stands_found h p bytes Other t = other_found h p bytes t
 
 -- what stands behind a header
-segments_stand : (h : Head) (p : Place) (bytes : List ℕ) (used : ℕ) (own : List Block) → IsBytes bytes → 1 ≤ length bytes → HasFewBlocks (grids h p) → header_of (grids h p) bytes ≡ Done used own → (f : Found) × FoundIs h p bytes f
+segments_stand : (h : Head) (p : Place) (bytes : List ℕ) (used : ℕ) (own : List Block) → IsBytes bytes → 1 ≤ length bytes → HasFewBlocks h p → marked_header_of (grids h p) h.eph bytes ≡ Done used own → (f : Found) × FoundIs h p bytes f
 segments_stand h p bytes used own fits some few done =
     let head = take used bytes in
     let behind = drop used bytes in
-    let is_header = header_sound (grids h p) bytes used own fits (own_bands h p) done in
+    let is_header = marked_sound (grids h p) h.eph bytes used own fits (own_bands h p) done in
     let split : bytes ≡ head ++ behind = sym (take-append-drop used bytes) in
-    let begins : BeginsPacket (grids h p) own head behind bytes = record { few_blocks = few; is_header = is_header; whole = split } in
+    let begins : BeginsPacket h p own head behind bytes = record { few_blocks = few; is_header = is_header; whole = split } in
     elim (cases_lt 16777216 (length head + segment_bytes own)) [
       | inl long ↦ (Other, (some, inr (few, inr (record { blocks = own; header = head; rest = behind; begins = begins; long = long }))))
       | inr short ↦ elim (cases_lt (length behind) (segment_bytes own)) [
@@ -119,17 +117,17 @@ segments_stand h p bytes used own fits some few done =
     ]
 
 -- what stands, by the answer to its header,
-header_stands : (h : Head) (p : Place) (bytes : List ℕ) (r : HeaderReading) → IsBytes bytes → 1 ≤ length bytes → HasFewBlocks (grids h p) → header_of (grids h p) bytes ≡ r → (f : Found) × FoundIs h p bytes f
+header_stands : (h : Head) (p : Place) (bytes : List ℕ) (r : HeaderReading) → IsBytes bytes → 1 ≤ length bytes → HasFewBlocks h p → marked_header_of (grids h p) h.eph bytes ≡ r → (f : Found) × FoundIs h p bytes f
 header_stands h p bytes (Done used own) fits some few e = segments_stand h p bytes used own fits some few e
-header_stands h p bytes Need fits some few e = (Part, inr (record { few_blocks = few; unfinished = inl (needs_sound (grids h p) bytes fits (own_bands h p) e) }))
-header_stands h p bytes (Bad why) fits some few e = (Other, (some, inr (few, inl (why, refusal_sound (grids h p) bytes why fits (own_bands h p) e))))
+header_stands h p bytes Need fits some few e = (Part, inr (record { few_blocks = few; unfinished = inl (marked_needs_sound (grids h p) h.eph bytes fits (own_bands h p) e) }))
+header_stands h p bytes (Bad why) fits some few e = (Other, (some, inr (few, inl (why, marked_refusal_sound (grids h p) h.eph bytes why fits (own_bands h p) e))))
 
 -- and what stands at all
 what_stands : (h : Head) (p : Place) (bytes : List ℕ) → IsBytes bytes → (f : Found) × FoundIs h p bytes f
 what_stands h p [] fits = (Part, inl refl)
 what_stands h p (b ∷ bytes) fits = elim (cases_lt 65536 (block_count (grids h p))) [
   | inl many ↦ (Other, (omega arith, inl many))
-  | inr few ↦ header_stands h p (b ∷ bytes) (header_of (grids h p) (b ∷ bytes)) fits (omega arith) few refl
+  | inr few ↦ header_stands h p (b ∷ bytes) (marked_header_of (grids h p) h.eph (b ∷ bytes)) fits (omega arith) few refl
 ]
 
 -- what is found is what stands there

@@ -5,20 +5,20 @@ use Rattle.std.proofs.lemmas.Bool.{cases_lt}
 use Rattle.std.proofs.lemmas.List.{append-nil, length-append, length-take, take_all}
 use Rattle.std.proofs.Math.Nat.{mod-eq_of_lt}
 use Rattle.std.proofs.Math.Seq.{take-append-add}
+use Rattle.codestream_model.specs.MarkedHeader.{RefusesMarkedHeader}
+use Rattle.codestream_model.specs.MarkedLaws.{BeginWithMarkedHeader}
+use Rattle.codestream_model.proofs.MarkedVerdicts.{one_marked_verdict}
+use Rattle.codestream_model.proofs.PacketsOneWay.{one_marked}
 use Rattle.codestream_model.specs.Values.{Head, Place}
 use Rattle.codestream_model.specs.Bytes.{IsBytes}
 use Rattle.codestream_model.specs.HeadRefusals.{HeadRefusal, Cut as HeadCut}
 use Rattle.codestream_model.specs.RefusedHeader.{RefusesHead}
 use Rattle.codestream_model.specs.Precincts.{grids}
-use Rattle.codestream_model.specs.PacketHeader.{RefusesHeader}
-use Rattle.codestream_model.specs.PacketLaws.{BeginWithHeader}
 use Rattle.codestream_model.specs.Packet.{HasFewBlocks, block_count, segment_bytes, IsPacketTooLong, LacksSegments, NeedsPacketBytes}
 use Rattle.codestream_model.specs.Codestream.{IsPsotRight, IsCodestream, joined, WalkRefusal, HeadRefused, Cut, TooManyBlocks, HeaderRefused, PacketTooLong, Psot, NoEoc, InputTooLong, TooManyFrames, HoldsAtPacket, HoldsAtEoc, IsOther, RefusesCodestream, NeedsCodestreamBytes, readable, RefusesRest}
 use Rattle.codestream_model.proofs.HeaderJudged.{header_is_not_refused}
 use Rattle.codestream_model.proofs.SegmentBytes.{bytes-take}
-use Rattle.codestream_model.proofs.OneWayLemmas.{one_header}
 use Rattle.codestream_model.proofs.OwnBands.{own_bands}
-use Rattle.codestream_model.proofs.VerdictLemmas.{one_verdict}
 use Rattle.stream_model.specs.Report.{Precinct, lines}
 use Rattle.stream_model.specs.Commands.{counted, parsed}
 use Rattle.stream_model.specs.CommandLaws.{precincts_of, stamp_of, Said, AreCodestreams, precincts_from, BeginsWithHead, BeginsWithPacket, BeginsWithEoc, ArePrecinctsOf, ArePrecinctsBehind, ParseWritesWholePackets, ParseWritesInputs, ParseWritesUpToFault}
@@ -107,34 +107,34 @@ head_lacks bytes at why r (h, head, more, s, e) =
     header_is_not_refused h head more at why s (subst P e r)
 
 -- a packet begins with its header
-pub packet_header : (h : Head) (p : Place) (bytes : List ℕ) → BeginsWithPacket h p bytes → BeginWithHeader (grids h p) bytes
+pub packet_header : (h : Head) (p : Place) (bytes : List ℕ) → BeginsWithPacket h p bytes → BeginWithMarkedHeader (grids h p) h.eph bytes
 packet_header h p bytes (x, packet, more, s, e) =
     (x.blocks, s.header, x.bytes ++ more, s.is_header, e ∙ (ap (λ (l : List ℕ). l ++ more) s.whole ∙ append_assoc s.header x.bytes more))
 
 -- a packet that would be too long isn't there,
-pub long_lacks : (h : Head) (p : Place) (bytes : List ℕ) → IsPacketTooLong (grids h p) bytes → BeginsWithPacket h p bytes → ⊥
+pub long_lacks : (h : Head) (p : Place) (bytes : List ℕ) → IsPacketTooLong h p bytes → BeginsWithPacket h p bytes → ⊥
 unfolding packet_header
 long_lacks h p bytes t (x, packet, more, s, e) =
     let b = packet_header h p bytes (x, packet, more, s, e) in
-    let one = one_header (grids h p) t.blocks x.blocks t.header s.header t.rest (x.bytes ++ more) (own_bands h p) t.begins.is_header s.is_header (sym t.begins.whole ∙ b.4) in
+    let one = one_marked (grids h p) h.eph t.blocks x.blocks t.header s.header t.rest (x.bytes ++ more) (own_bands h p) t.begins.is_header s.is_header (sym t.begins.whole ∙ b.4) in
     let size : length packet ≡ length s.header + length x.bytes = ap length s.whole ∙ length-append s.header x.bytes in
     let same : segment_bytes t.blocks ≡ segment_bytes x.blocks = ap segment_bytes one.1 in
     absurd (omega (arith, t.long, s.short, s.segments, ap length one.0))
 
 -- nor one of which bytes lack
-short_lacks : (h : Head) (p : Place) (bytes : List ℕ) → LacksSegments (grids h p) bytes → BeginsWithPacket h p bytes → ⊥
+short_lacks : (h : Head) (p : Place) (bytes : List ℕ) → LacksSegments h p bytes → BeginsWithPacket h p bytes → ⊥
 unfolding packet_header
 short_lacks h p bytes t (x, packet, more, s, e) =
     let b = packet_header h p bytes (x, packet, more, s, e) in
     let whole : t.header ++ t.rest ≡ s.header ++ (x.bytes ++ more) = sym t.begins.whole ∙ b.4 in
-    let one = one_header (grids h p) t.blocks x.blocks t.header s.header t.rest (x.bytes ++ more) (own_bands h p) t.begins.is_header s.is_header whole in
+    let one = one_marked (grids h p) h.eph t.blocks x.blocks t.header s.header t.rest (x.bytes ++ more) (own_bands h p) t.begins.is_header s.is_header whole in
     let same : segment_bytes t.blocks ≡ segment_bytes x.blocks = ap segment_bytes one.1 in
     absurd (omega (arith, t.lacks, s.segments, ap length one.0, ap length whole, length-append t.header t.rest, length-append s.header (x.bytes ++ more), length-append x.bytes more))
 
 -- so one that isn't whole isn't there
-pub needs_lacks : (h : Head) (p : Place) (bytes : List ℕ) → NeedsPacketBytes (grids h p) bytes → BeginsWithPacket h p bytes → ⊥
+pub needs_lacks : (h : Head) (p : Place) (bytes : List ℕ) → NeedsPacketBytes h p bytes → BeginsWithPacket h p bytes → ⊥
 needs_lacks h p bytes t b = elim t.unfinished [
-  | inl n ↦ (one_verdict (grids h p) bytes (own_bands h p)).not_unfinished (packet_header h p bytes b) n
+  | inl n ↦ (one_marked_verdict (grids h p) h.eph bytes (own_bands h p)).not_unfinished (packet_header h p bytes b) n
   | inr n ↦ short_lacks h p bytes n b
 ]
 
@@ -168,9 +168,9 @@ before_refusal stamp bytes at (HeadRefused why) r = ([], inl (head_lacks bytes a
 before_refusal stamp bytes at TooManyBlocks r =
     before_packet stamp bytes at (λ h p rest. 65536 < block_count (grids h p)) (λ h p rest many b. let few : block_count (grids h p) ≤ 65536 = b.3.few_blocks in absurd (omega arith)) r
 before_refusal stamp bytes at (HeaderRefused why) r =
-    before_packet stamp bytes at (λ h p rest. HasFewBlocks (grids h p) × RefusesHeader (grids h p) rest why)
-    (λ h p rest t b. (one_verdict (grids h p) rest (own_bands h p)).not_refused (packet_header h p rest b) why t.1) r
-before_refusal stamp bytes at PacketTooLong r = before_packet stamp bytes at (λ h p rest. IsPacketTooLong (grids h p) rest) (λ h p rest t b. long_lacks h p rest t b) r
+    before_packet stamp bytes at (λ h p rest. HasFewBlocks h p × RefusesMarkedHeader (grids h p) h.eph rest why)
+    (λ h p rest t b. (one_marked_verdict (grids h p) h.eph rest (own_bands h p)).not_refused (packet_header h p rest b) why t.1) r
+before_refusal stamp bytes at PacketTooLong r = before_packet stamp bytes at (λ h p rest. IsPacketTooLong h p rest) (λ h p rest t b. long_lacks h p rest t b) r
 before_refusal stamp bytes at Psot r = before_eoc stamp bytes at (λ h rest. IsPsotRight h at → ⊥) (λ h rest no e. no e.0) r
 before_refusal stamp bytes at NoEoc r = before_eoc stamp bytes at (λ h rest. IsPsotRight h at × IsOther rest) (λ h rest t e. other_lacks rest t.1 e.1.0 e.1.1) r
 before_refusal stamp bytes at Cut r = absurd r
@@ -180,7 +180,7 @@ before_refusal stamp bytes at TooManyFrames r = absurd r
 -- and before the end of bytes
 before_end : (stamp : ℕ) (bytes : List ℕ) → NeedsCodestreamBytes bytes → PrecinctsAre stamp bytes
 before_end stamp bytes (at, inl r) = ([], inl (head_lacks bytes at HeadCut r, refl))
-before_end stamp bytes (at, inr (inl r)) = before_packet stamp bytes at (λ h p rest. NeedsPacketBytes (grids h p) rest) (λ h p rest t b. needs_lacks h p rest t b) r
+before_end stamp bytes (at, inr (inl r)) = before_packet stamp bytes at (λ h p rest. NeedsPacketBytes h p rest) (λ h p rest t b. needs_lacks h p rest t b) r
 before_end stamp bytes (at, inr (inr r)) = before_eoc stamp bytes at (λ h rest. IsPsotRight h at × (length rest < 2)) (λ h rest t e. few_lacks rest e.1.0 t.1 e.1.1) r
 
 -- what is refused of the rest of an input

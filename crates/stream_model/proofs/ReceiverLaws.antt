@@ -26,7 +26,7 @@ use Rattle.stream_model.proofs.ReceiverRuns.{Known, IsStreamAt, frames_known, At
 
 -- a datagram that stands nowhere
 pub nowhere : Datagram
-nowhere = record { rtp = record { marker = false; kind = 0; number = 0; stamp = 0; source = 0 }; payload = Main (record { eseq = 0; xtrac = 0 }); codestream = [] }
+nowhere = record { rtp = record { marker = false; kind = 0; number = 0; stamp = 0; source = 0 }; payload = Main (record { ordh = 4; eseq = 0; xtrac = 0 }); codestream = [] }
 
 -- the datagram at a position
 abbrev pub at : List Datagram → ℕ → Datagram

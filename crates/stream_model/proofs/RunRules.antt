@@ -4,13 +4,12 @@ use Rattle.std.proofs.lemmas.Bool.{cases_lt}
 use Rattle.std.proofs.lemmas.List.{append-nil, length-append}
 use Rattle.codestream_model.specs.Values.{Head, Place}
 use Rattle.codestream_model.specs.Precincts.{grids}
-use Rattle.codestream_model.specs.PacketHeader.{SpellsHeader}
 use Rattle.codestream_model.specs.PacketOrder.{pid}
-use Rattle.codestream_model.specs.Packet.{Content, SpellsPacket}
+use Rattle.codestream_model.specs.Packet.{SpellsPacketHeader, Content, SpellsPacket}
 use Rattle.codestream_model.specs.Codestream.{joined}
 use Rattle.codestream_model.proofs.OneWayLemmas.{fronts, same_front}
 use Rattle.codestream_model.proofs.OwnBands.{own_bands}
-use Rattle.codestream_model.proofs.VerdictLemmas.{front_needs}
+use Rattle.codestream_model.proofs.MarkedVerdicts.{marked_front_needs}
 use Rattle.stream_model.specs.Report.{Precinct}
 use Rattle.stream_model.specs.Stream.{ArePackets}
 use Rattle.stream_model.specs.CommandLaws.{precincts_of}
@@ -45,8 +44,8 @@ part_found h p x packet got rest s e some = elim (cases_lt (length got) (length 
       let f = fronts got s.header rest x.bytes (sym e ∙ s.whole) in
       elim f.1 [
         | inl g ↦
-            let S : List ℕ → Type 0 = λ l. SpellsHeader (grids h p) x.blocks l in
-            stands_found h p got Part (inr (record { few_blocks = s.few_blocks; unfinished = inl (front_needs (grids h p) x.blocks got f.0 (own_bands h p) (subst S g s.is_header) (omega (arith, short, ap length g, length-append got f.0))) }))
+            let S : List ℕ → Type 0 = λ l. SpellsPacketHeader h p x.blocks l in
+            stands_found h p got Part (inr (record { few_blocks = s.few_blocks; unfinished = inl (marked_front_needs (grids h p) h.eph x.blocks got f.0 (own_bands h p) (subst S g s.is_header) (omega (arith, short, ap length g, length-append got f.0))) }))
         | inr g ↦ absurd (omega (arith, short, ap length g, length-append s.header f.0))
       ]
   | inr long ↦

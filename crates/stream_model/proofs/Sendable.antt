@@ -10,6 +10,7 @@ use Rattle.codestream_model.specs.Precincts.{IsPrecinct}
 use Rattle.codestream_model.specs.PacketOrder.{pid}
 use Rattle.codestream_model.proofs.Members.{Has, contained_has}
 use Rattle.codestream_model.proofs.HeaderLimits.{header_is_within_limits}
+use Rattle.codestream_model.proofs.BytesLemmas.{bytes_front}
 use Rattle.stream_model.specs.Stream.{Parts, ArePartsOf, bytes_after_sod}
 use Rattle.stream_model.specs.Cut.{Plan, room}
 
@@ -18,13 +19,6 @@ pub record IsSendable (p : Plan) (c : Parts) : Type 0 where
   pub fits : length c.header ≤ room p
   pub resolutions : AllByRecursion (λ q. q.r ≤ c.head.levels) c.places
   pub numbers : AllByRecursion (λ q. pid c.head q < 2 ^ 20) c.places
-
--- the front of bytes are bytes
-bytes_front : (xs ys : List ℕ) → IsBytes (xs ++ ys) → IsBytes xs
-bytes_front xs ys t i = elim (cases_lt i (length xs)) [
-  | inl h ↦ let f : slice_index (xs ++ ys) i < 256 = t i in rw (get_or_append_left xs ys 0 i h) at f
-  | inr h ↦ rw (get_or_past xs i 0 h) (let z : 0 < 256 = omega arith in z)
-]
 
 -- what holds of each member
 each_member : {X : Type 0} (P : X → Type 0) (xs : List X) → ((x : X) → Has xs x → P x) → AllByRecursion P xs

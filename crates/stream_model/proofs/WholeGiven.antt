@@ -2,6 +2,7 @@
 use Rattle.std.proofs.Common.{◌≡◌, ◌≤◌, ◌+◌, ◌-◌, ◌==◌, ℕ, zero, suc, Bool, true, false, nat_lt, nat_le, List, [], ◌∷◌, length, drop, Option, Some, None, refl, arith, length-take, length-drop, if◌then◌else◌}
 use Rattle.std.specs.List.{AllByRecursion}
 use Rattle.std.proofs.lemmas.Bool.{leb-true}
+use Rattle.codestream_model.specs.MarkedHeader.{marked_header_of}
 use Rattle.codestream_model.specs.Values.{Head, Place, Block}
 use Rattle.codestream_model.specs.Precincts.{grids}
 use Rattle.codestream_model.specs.Packet.{block_count, segment_bytes}
@@ -33,8 +34,8 @@ size_header bytes (Bad why) = tt
 size_packet : (h : Head) (p : Place) (bytes : List ℕ) → HasSize bytes (found_packet h p bytes)
 unfolding found_packet
 size_packet h p [] = tt
-size_packet h p (b ∷ bytes) = by (nat_lt 65536 (block_count (grids h p))) (size_header (b ∷ bytes) (header_of (grids h p) (b ∷ bytes))) where
-  by : (c : Bool) → HasSize (b ∷ bytes) (found_header (b ∷ bytes) (header_of (grids h p) (b ∷ bytes))) → HasSize (b ∷ bytes) (if c then Other else found_header (b ∷ bytes) (header_of (grids h p) (b ∷ bytes)))
+size_packet h p (b ∷ bytes) = by (nat_lt 65536 (block_count (grids h p))) (size_header (b ∷ bytes) (marked_header_of (grids h p) h.eph (b ∷ bytes))) where
+  by : (c : Bool) → HasSize (b ∷ bytes) (found_header (b ∷ bytes) (marked_header_of (grids h p) h.eph (b ∷ bytes))) → HasSize (b ∷ bytes) (if c then Other else found_header (b ∷ bytes) (marked_header_of (grids h p) h.eph (b ∷ bytes)))
   by true s = tt
   by false s = s
 

@@ -91,6 +91,8 @@ head_of_levels = record {
   levels = 1;
   block = record { x = 6; y = 6 };
   precincts = record { x = 15; y = 15 } ∷ record { x = 15; y = 15 } ∷ [];
+  order = 3;
+  eph = false;
   psot = 0;
   sot = 78;
   length = 92;

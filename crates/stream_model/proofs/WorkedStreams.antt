@@ -5,14 +5,15 @@ use Rattle.wire_model.specs.Payload.{Main, Body}
 use Rattle.wire_model.specs.Datagram.{Datagram}
 use Rattle.wire_model.proofs.Captures.{main_header, main_header_of_three, codestream_of_b, packet}
 use Rattle.codestream_model.proofs.WorkedPacketHeaders.{block}
-use Rattle.codestream_model.proofs.WorkedPackets.{head_of_one, head_of_three, precinct}
+use Rattle.codestream_model.proofs.WorkedGeometry.{one_sample, three_samples}
+use Rattle.codestream_model.proofs.WorkedPackets.{precinct}
 use Rattle.stream_model.specs.Stream.{Parts, Sent, carried}
 use Rattle.stream_model.proofs.WorkedReached.{three_packets}
 
 -- the codestream of one packet
 abbrev pub parts_of_one : Parts
 parts_of_one = record {
-  head = head_of_one;
+  head = one_sample;
   header = main_header;
   places = precinct 0 ∷ [];
   content = record { blocks = block 2 1 2 0 ∷ []; bytes = 170 ∷ 187 ∷ [] } ∷ [];
@@ -28,7 +29,7 @@ abbrev pub sent_of_one : Sent
 sent_of_one = record {
   parts = parts_of_one;
   stamp = 0;
-  main = record { rtp = record { marker = false; kind = 96; number = 0; stamp = 0; source = 1 }; payload = Main (record { eseq = 0; xtrac = 0 }); codestream = main_header };
+  main = record { rtp = record { marker = false; kind = 96; number = 0; stamp = 0; source = 1 }; payload = Main (record { ordh = 4; eseq = 0; xtrac = 0 }); codestream = main_header };
   bodies = body_of_one ∷ [];
 }
 
@@ -44,7 +45,7 @@ carried_of_one = refl
 -- the codestream of three packets
 abbrev pub parts_of_three : Parts
 parts_of_three = record {
-  head = head_of_three;
+  head = three_samples;
   header = main_header_of_three;
   places = precinct 0 ∷ precinct 1 ∷ precinct 2 ∷ [];
   content =
@@ -68,7 +69,7 @@ abbrev pub sent_of_three : ℕ → ℕ → Sent
 sent_of_three stamp number = record {
   parts = parts_of_three;
   stamp = stamp;
-  main = record { rtp = record { marker = false; kind = 96; number = number; stamp = stamp; source = 1 }; payload = Main (record { eseq = 0; xtrac = 0 }); codestream = main_header_of_three };
+  main = record { rtp = record { marker = false; kind = 96; number = number; stamp = stamp; source = 1 }; payload = Main (record { ordh = 4; eseq = 0; xtrac = 0 }); codestream = main_header_of_three };
   bodies =
       body_of_three false stamp (number + 1) true 0 0 (slice_range codestream_of_b 90 180)
       ∷ body_of_three false stamp (number + 2) true 12 1 (slice_range codestream_of_b 180 270)

@@ -27,22 +27,25 @@ written_rtp h payload fit = record {
 }
 
 -- a Main
-written_main : (h : MainFields) (codestream : List ℕ) → h.xtrac ≡ 0 → h.eseq < 2 ^ 8 → IsMain h codestream (196 ∷ 0 ∷ 0 ∷ h.eseq ∷ 0 ∷ 0 ∷ 0 ∷ 0 ∷ codestream)
-written_main h codestream none eseq = record {
-  mh_tp_ordh = 196;
+written_main : (h : MainFields) (codestream : List ℕ) → h.xtrac ≡ 0 → h.eseq < 2 ^ 8 → h.ordh < 2 ^ 3 → IsMain h codestream ((192 + h.ordh) ∷ 0 ∷ 0 ∷ h.eseq ∷ 0 ∷ 0 ∷ 0 ∷ 0 ∷ codestream)
+written_main h codestream none eseq ordh = record {
+  mh = 3;
+  tp = 0;
   p = 0;
   ptstamp = 0;
   colour = 0 ∷ 0 ∷ 0 ∷ 0 ∷ [];
   extra = [];
   is_main = omega arith;
   mh_fits = omega arith;
+  tp_fits = omega arith;
+  ordh_fits = ordh;
   p_fits = omega arith;
   xtrac_fits = omega arith;
   ptstamp_fits = omega arith;
   eseq_fits = eseq;
   is_colour = refl;
   is_extra = omega arith;
-  whole = ap (λ n. 196 ∷ n ∷ 0 ∷ h.eseq ∷ 0 ∷ 0 ∷ 0 ∷ 0 ∷ codestream) (let e : 0 ≡ 0 * 128 + h.xtrac * 16 + 0 / 256 = omega arith in e);
+  whole = ap (λ n. (192 + h.ordh) ∷ n ∷ 0 ∷ h.eseq ∷ 0 ∷ 0 ∷ 0 ∷ 0 ∷ codestream) (let e : 0 ≡ 0 * 128 + h.xtrac * 16 + 0 / 256 = omega arith in e);
 }
 
 -- a Body
@@ -72,7 +75,7 @@ written_body h codestream fit =
 
 -- a payload of either kind
 written_payload : (h : PayloadFields) (codestream : List ℕ) → FitPayload h codestream → IsPayload h codestream (payload_header h ++ codestream)
-written_payload (Main h) codestream fit = written_main h codestream fit.0 fit.1
+written_payload (Main h) codestream fit = written_main h codestream fit.0 fit.1 fit.2
 written_payload (Body h) codestream fit = written_body h codestream fit
 
 -- the length of a payload header

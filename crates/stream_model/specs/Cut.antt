@@ -134,11 +134,15 @@ number_at p position = (p.number + position) % 2 ^ 24
 abbrev pub rtp_at : Plan → ℕ → ℕ → Bool → RtpFields
 rtp_at p stamp position marker = record { marker = marker; kind = p.kind; number = number_at p position % 2 ^ 16; stamp = stamp; source = p.source }
 
+-- ORDH of a main header, by its packet order: 3 for RPCL and 4 for PCRL (RFC 9828)
+abbrev pub ordh_of : Head → ℕ
+ordh_of h = if h.order == 2 then 3 else 4
+
 -- the Main of a codestream
 abbrev pub main_at : Plan → ℕ → ℕ → Known → Datagram
 main_at p stamp position c = record {
   rtp = rtp_at p stamp position false;
-  payload = Main (record { eseq = number_at p position / 2 ^ 16; xtrac = 0 });
+  payload = Main (record { ordh = ordh_of c.head; eseq = number_at p position / 2 ^ 16; xtrac = 0 });
   codestream = c.header;
 }
 
@@ -181,9 +185,9 @@ sent_by p parts =
     })
     (enumerate_from 0 parts)
 
--- the payload header as our sender writes it: MH 3 and ORDH 4 in a Main, and all fields that aren't read 0
+-- the payload header as our sender writes it: MH 3 in a Main, and all fields that it doesn't name 0
 abbrev pub payload_header : PayloadFields → List ℕ
-payload_header (Main h) = 196 ∷ 0 ∷ 0 ∷ h.eseq ∷ 0 ∷ 0 ∷ 0 ∷ 0 ∷ []
+payload_header (Main h) = (192 + h.ordh) ∷ 0 ∷ 0 ∷ h.eseq ∷ 0 ∷ 0 ∷ 0 ∷ 0 ∷ []
 payload_header (Body h) = h.res ∷ (bit h.ordb * 128) ∷ 0 ∷ h.eseq ∷ (h.pos / 16) ∷ (h.pos % 16 * 16 + h.pid / 65536) ∷ (h.pid / 256 % 256) ∷ (h.pid % 256) ∷ []
 
 -- the bytes of a datagram as our sender writes them: no CSRC, no extension and no padding
@@ -201,8 +205,8 @@ IsCut p codestreams datagrams =
 abbrev pub IsOpened : Head → List Place → List ℕ → List Piece → Type 0
 IsOpened h [] bytes opened = opened ≡ []
 IsOpened h (p ∷ later) bytes opened =
-    (LacksSegments (grids h p) bytes × (opened ≡ record { place = p; bytes = bytes } ∷ []))
-    ⊎ ((LacksSegments (grids h p) bytes → ⊥)
+    (LacksSegments h p bytes × (opened ≡ record { place = p; bytes = bytes } ∷ []))
+    ⊎ ((LacksSegments h p bytes → ⊥)
     × ((x : Content) (packet more : List ℕ) → SpellsPacket h p x packet → bytes ≡ packet ++ more → ⊥)
     × (opened ≡ []))
 

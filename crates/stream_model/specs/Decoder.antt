@@ -5,7 +5,8 @@ use Rattle.codestream_model.specs.Values.{Head, Place, Block}
 use Rattle.codestream_model.specs.MainHeaderReading.{head_of, Refused}
 use Rattle.codestream_model.specs.Precincts.{grids}
 use Rattle.codestream_model.specs.PacketOrder.{pid, packet_order}
-use Rattle.codestream_model.specs.PacketHeaderReading.{HeaderReading, Done, Need, Bad, header_of}
+use Rattle.codestream_model.specs.PacketHeaderReading.{HeaderReading, Done, Need, Bad}
+use Rattle.codestream_model.specs.MarkedHeader.{marked_header_of}
 use Rattle.codestream_model.specs.Packet.{block_count, segment_bytes}
 use Rattle.wire_model.specs.Payload.{BodyFields}
 use Rattle.stream_model.specs.Report.{Precinct}
@@ -100,7 +101,7 @@ found_header bytes (Bad why) = Other
 
 unfoldable pub found_packet : Head → Place → List ℕ → Found
 found_packet h p [] = Part
-found_packet h p (b ∷ bytes) = if nat_lt 65536 (block_count (grids h p)) then Other else found_header (b ∷ bytes) (header_of (grids h p) (b ∷ bytes))
+found_packet h p (b ∷ bytes) = if nat_lt 65536 (block_count (grids h p)) then Other else found_header (b ∷ bytes) (marked_header_of (grids h p) h.eph (b ∷ bytes))
 
 -- the precincts of the order from one on
 unfoldable pub from_place : Place → List Place → List Place

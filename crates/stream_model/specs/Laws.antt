@@ -168,7 +168,7 @@ pub record FitBody (h : BodyFields) (codestream : List ℕ) : Type 0 where
 
 -- the values of a payload header fit; our sender's Main has no skipped bytes
 abbrev pub FitPayload : PayloadFields → List ℕ → Type 0
-FitPayload (Main h) codestream = (h.xtrac ≡ 0) × (h.eseq < 2 ^ 8)
+FitPayload (Main h) codestream = (h.xtrac ≡ 0) × (h.eseq < 2 ^ 8) × (h.ordh < 2 ^ 3)
 FitPayload (Body h) codestream = FitBody h codestream
 
 -- what our sender writes is a datagram with the values that it means

@@ -5,7 +5,7 @@ use Rattle.codestream_model.specs.Values.{Head, Place}
 use Rattle.codestream_model.specs.Bytes.{IsBytes}
 use Rattle.codestream_model.specs.Precincts.{grids}
 use Rattle.codestream_model.specs.HeaderPieces.{HeaderRefusal}
-use Rattle.codestream_model.specs.PacketHeader.{RefusesHeader}
+use Rattle.codestream_model.specs.MarkedHeader.{RefusesMarkedHeader}
 use Rattle.codestream_model.specs.Packet.{Content, HasFewBlocks, block_count, SpellsPacket, IsPacketTooLong, NeedsPacketBytes}
 use Rattle.stream_model.specs.Decoder.{Found, Whole, Part, Other, found_packet}
 use Rattle.stream_model.specs.Receiver.{Pick, Receiver, take_frame, received, flushed}
@@ -25,10 +25,10 @@ abbrev pub FoundIs : Head → Place → List ℕ → Found → Type 0
 FoundIs h p bytes (Whole blocks header size) =
     (x : Content) × (packet : List ℕ) × (more : List ℕ) × (s : SpellsPacket h p x packet) × (bytes ≡ packet ++ more)
     × (x.blocks ≡ blocks) × (length s.header ≡ header) × (length packet ≡ size)
-FoundIs h p bytes Part = (bytes ≡ []) ⊎ NeedsPacketBytes (grids h p) bytes
+FoundIs h p bytes Part = (bytes ≡ []) ⊎ NeedsPacketBytes h p bytes
 FoundIs h p bytes Other =
     (1 ≤ length bytes) × ((65536 < block_count (grids h p))
-    ⊎ (HasFewBlocks (grids h p) × (((why : HeaderRefusal) × RefusesHeader (grids h p) bytes why) ⊎ IsPacketTooLong (grids h p) bytes)))
+    ⊎ (HasFewBlocks h p × (((why : HeaderRefusal) × RefusesMarkedHeader (grids h p) h.eph bytes why) ⊎ IsPacketTooLong h p bytes)))
 
 -- what is found of a packet is what stands there
 abbrev pub FoundIsWhatStands : Type 0

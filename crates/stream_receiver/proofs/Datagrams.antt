@@ -15,7 +15,8 @@ use Rattle.wire_model.proofs.PayloadFound.{payload_reads_as_laid_out}
 use Rattle.wire_model.proofs.DatagramLaws.{datagram_is_computed, bytes-range}
 use Rattle.stream_model.specs.Stream.{eseq_of, extended_number}
 use Rattle.stream_model.specs.Arrivals.{is_of_kind}
-use Rattle.scl_payload.specs.Heads.{fields_of}
+use Rattle.scl_payload.specs.Heads.{fields_of, head_of, IsReadAs}
+use Rattle.scl_payload.specs.declared.head.Payload.{Payload}
 use Rattle.stream_receiver.specs.declared.datagram.Read.{Read}
 use Rattle.std.specs.Prelude.{◌↔◌, Result, Ok, Err}
 use Rattle.wire_model.specs.Payload.{IsShortOfPayload, IsPastExtension, IsPastPos}
@@ -40,30 +41,41 @@ marked_is : (p : PayloadFields) (codestream body : List ℕ) → IsPayload p cod
 marked_is (Main h) codestream body is = tt
 marked_is (Body h) codestream body is = is.marked
 
+-- ORDH has no part in the extended number,
+eseq_same : (p : PayloadFields) → eseq_of (fields_of (head_of p)) ≡ eseq_of p
+eseq_same (Main h) = refl
+eseq_same (Body h) = refl
+
+-- nor in the mark
+marked_same : (p : PayloadFields) (codestream : List ℕ) → IsMarked p codestream → IsMarked (fields_of (head_of p)) codestream
+marked_same (Main h) codestream is = tt
+marked_same (Body h) codestream is = is
+
 both_true : (a b : Bool) → a ≡ true → b ≡ true → (a && b) ≡ true
 both_true a b e f = rw (e, f) refl
 
 -- what was read of all its parts
-pub read_is : (kind : ℕ) (b : List ℕ) (h : RtpFields) (header body codestream : List ℕ) (d : Read) → length b ≤ 9000 → IsRtp h header body b → IsPayload (fields_of d.payload) codestream body → h.kind ≡ kind
+pub read_is : (kind : ℕ) (b : List ℕ) (h : RtpFields) (header body codestream : List ℕ) (d : Read) → length b ≤ 9000 → IsRtp h header body b → IsReadAs d.payload codestream body → h.kind ≡ kind
     → d.stamp ≡ h.stamp → d.source ≡ h.source → d.number ≡ eseq_of (fields_of d.payload) * 65536 + h.number → d.codestream.now ≡ codestream → length codestream ≤ 9000 → IsRead kind b d
-read_is kind b h header body codestream d short rtp payload k stamp source number code few =
-    let x : Datagram = record { rtp = h; payload = fields_of d.payload; codestream = codestream } in
+read_is kind b h header body codestream d short rtp (p, head, payload) k stamp source number code few =
+    let x : Datagram = record { rtp = h; payload = p; codestream = codestream } in
+    let eseq : eseq_of (fields_of d.payload) ≡ eseq_of p = ap (λ y. eseq_of (fields_of y)) head ∙ eseq_same p in
     let twelve_bytes = twelve b h header body rtp in
     let is : IsDatagram x b = record { header = header; body = body; some = omega (arith, twelve_bytes); short = short; is_rtp = rtp; is_payload = payload } in
     let (formed, same) = datagram_is_computed rtp_is_read_one_way payload_is_read_one_way x b is in
     let kind_is : ((datagram_of b).rtp.kind == kind) ≡ true = eq-eqb (datagram_of b).rtp.kind kind (ap (λ (y : Datagram). y.rtp.kind) (sym same) ∙ k) in
-    let e = eseq_fits (fields_of d.payload) codestream body payload in
+    let e = eseq_fits p codestream body payload in
     record {
       is = both_true (is_well_formed b) ((datagram_of b).rtp.kind == kind) formed kind_is;
       stamp = ap (λ (y : Datagram). y.rtp.stamp) (sym same) ∙ sym stamp;
       source = ap (λ (y : Datagram). y.rtp.source) (sym same) ∙ sym source;
-      number = ap extended_number (sym same) ∙ sym number;
-      payload = ap (λ (y : Datagram). y.payload) (sym same);
+      number = ap extended_number (sym same) ∙ sym (number ∙ ap (λ (n : ℕ). n * 65536 + h.number) eseq);
+      payload = head ∙ ap (λ (y : Datagram). head_of y.payload) same;
       codestream = ap (λ (y : Datagram). y.codestream) (sym same) ∙ sym code;
-      low = (let n = rtp.fit.number in omega (arith, number, e, n));
+      low = (let n = rtp.fit.number in omega (arith, number, eseq, e, n));
       fits = short;
       few = (let P : List ℕ → Type 0 = λ l. length l ≤ 9000 in subst P (sym code) few);
-      marked = (let P : List ℕ → Type 0 = λ l. IsMarked (fields_of d.payload) l in subst P (sym code) (marked_is (fields_of d.payload) codestream body payload));
+      marked = (let P : List ℕ → Type 0 = λ l. IsMarked (fields_of d.payload) l in subst P (sym code) (let Q : Payload → Type 0 = λ y. IsMarked (fields_of y) codestream in subst Q (sym head) (marked_same p codestream (marked_is p codestream body payload))));
     }
 
 off_kind : (a b : Bool) → b ≡ false → (a && b) ≡ false

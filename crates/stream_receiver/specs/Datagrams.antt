@@ -7,7 +7,7 @@ use Rattle.stream_model.specs.Stream.{extended_number}
 use Rattle.stream_model.specs.Arrivals.{is_of_kind}
 use Rattle.rtp_header.specs.declared.header.RtpFault.{RtpFault}
 use Rattle.rtp_header.specs.declared.header.RtpFault.TheVariants as rtp
-use Rattle.scl_payload.specs.Heads.{fields_of}
+use Rattle.scl_payload.specs.Heads.{fields_of, head_of}
 use Rattle.scl_payload.specs.declared.head.PayloadFault.{PayloadFault}
 use Rattle.scl_payload.specs.declared.head.PayloadFault.TheVariants as payload
 use Rattle.stream_receiver.specs.declared.datagram.Read.{Read}
@@ -25,7 +25,7 @@ pub record IsRead (kind : ℕ) (b : List ℕ) (d : Read) : Type 0 where
   pub stamp : (datagram_of b).rtp.stamp ≡ d.stamp
   pub source : (datagram_of b).rtp.source ≡ d.source
   pub number : extended_number (datagram_of b) ≡ d.number
-  pub payload : (datagram_of b).payload ≡ fields_of d.payload
+  pub payload : d.payload ≡ head_of (datagram_of b).payload
   pub codestream : (datagram_of b).codestream ≡ d.codestream.now
   pub low : d.number < 2 ^ 24
   pub fits : length b ≤ 9000

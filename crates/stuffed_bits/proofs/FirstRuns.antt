@@ -5,7 +5,8 @@ use Rattle.std.proofs.lemmas.Nat.{pow_pos, div-add-mod', leading_length}
 use Rattle.std.proofs.lemmas.List.{map-append, length-append, length-replicate, replicate-append-replicate, take_at}
 use Rattle.std.proofs.Math.Bool.{not-not}
 use Rattle.std.proofs.Math.Nat.{pow-suc, div-eq_of_lt, mod-lt, pow-le-pow_right}
-use Rattle.codestream_model.specs.StuffedBits.{bit, number_bits}
+use Rattle.codestream_model.specs.Bytes.{bit}
+use Rattle.codestream_model.specs.StuffedBits.{number_bits}
 use Rattle.codestream_model.proofs.BitLemmas.{number_bits-length}
 use Rattle.stuffed_bits.specs.RunsRead.{BeginsWith, others_in}
 use Rattle.stuffed_bits.proofs.PartLemmas.{above, joined_bits, split_bits}

@@ -1,7 +1,8 @@
 -- Numbers whose lowest bits are 0, and one of these set.
 use Rattle.std.proofs.Common.{◌≡◌, ◌<◌, ◌+◌, ◌*◌, ◌^◌, ℕ, zero, suc, Bool, true, false, List, [], ◌∷◌, ◌++◌, length, take, replicate, refl, sym, ◌∙◌, ap, arith}
 use Rattle.std.proofs.lemmas.List.{append-nil, length-append, length-replicate, take_at}
-use Rattle.codestream_model.specs.StuffedBits.{bit, number_bits, number_of}
+use Rattle.codestream_model.specs.Bytes.{bit}
+use Rattle.codestream_model.specs.StuffedBits.{number_bits, number_of}
 use Rattle.codestream_model.proofs.BitLemmas.{number_of-lt, bits_of_number, number_bits-length, number_of_bits, padded-take}
 
 -- bits that are 0 are 0

@@ -2,7 +2,8 @@
 use Rattle.std.proofs.Common.{◌≡◌, ◌≢◌, ◌<◌, ◌≤◌, ◌+◌, ◌-◌, ◌*◌, ◌^◌, ℕ, zero, suc, Bool, false, List, [], ◌∷◌, ◌++◌, length, take, replicate, slice_index, slice_set, refl, sym, ◌∙◌, ap, subst, inl, inr, arith, append_assoc}
 use Rattle.std.proofs.lemmas.Bool.Decides.{eqb_tells}
 use Rattle.std.proofs.lemmas.List.{append-nil, length-append, length-set, length-take-le, take_at, take-append-le, take_more, take_more_set}
-use Rattle.codestream_model.specs.StuffedBits.{bit, number_bits, width_after, carried, packing, bytes_of_bits}
+use Rattle.codestream_model.specs.Bytes.{bit}
+use Rattle.codestream_model.specs.StuffedBits.{number_bits, width_after, carried, packing, bytes_of_bits}
 use Rattle.codestream_model.proofs.BitLemmas.{padded, number_bits-zero}
 use Rattle.codestream_model.proofs.PackingLemmas.{width_cases}
 use Rattle.stuffed_bits.specs.Stands.{last_from, StandIn, Begun}

@@ -1,6 +1,7 @@
 -- What a writer of bits has written, and how far bits reach.
 use Rattle.std.specs.Prelude.{◌≡◌, ◌≤◌, ◌+◌, ◌-◌, ◌*◌, ◌^◌, ◌==◌, ℕ, Bool, false, List, length, take, replicate, if◌then◌else◌}
-use Rattle.codestream_model.specs.StuffedBits.{bit, width_after, packing, bytes_of_bits}
+use Rattle.codestream_model.specs.Bytes.{bit}
+use Rattle.codestream_model.specs.StuffedBits.{width_after, packing, bytes_of_bits}
 use Rattle.stuffed_bits.specs.Stands.{StandIn, last_from}
 use Rattle.stuffed_bits.specs.Pen.{Pen}
 

@@ -2,7 +2,8 @@
 use Rattle.std.proofs.Common.{◌≡◌, ◌≢◌, ◌<◌, ◌≤◌, ◌+◌, ◌-◌, ◌*◌, ◌^◌, ℕ, zero, suc, Bool, false, List, [], ◌∷◌, ◌++◌, length, take, drop, replicate, nat_le, refl, sym, ◌∙◌, ap, subst, inl, inr, arith, append_assoc, if◌then◌else◌}
 use Rattle.std.proofs.lemmas.Bool.Decides.{leb_tells, eqb_tells}
 use Rattle.std.proofs.lemmas.List.{length-append, length-drop, drop-append-le}
-use Rattle.codestream_model.specs.StuffedBits.{bit, number_of, width_after, packed_after, bytes_of_bits, carried_after}
+use Rattle.codestream_model.specs.Bytes.{bit}
+use Rattle.codestream_model.specs.StuffedBits.{number_of, width_after, packed_after, bytes_of_bits, carried_after}
 use Rattle.codestream_model.proofs.PackingLemmas.{width_cases}
 use Rattle.stuffed_bits.specs.Pen.{Pen}
 use Rattle.stuffed_bits.specs.Stands.{StandIn}

@@ -20,15 +20,18 @@ top b false e f = let h : b < 128 = grind (arith, nat_tests) in omega arith
 
 -- a Main of eight bytes and more
 main_laid_out : (a b c d e f g h : ℕ) (rest : List ℕ) → a < 256 → b < 256 → c < 256 → d < 256 → 64 ≤ a → 4 * (b / 16 % 8) ≤ length rest
-    → IsMain (record { eseq = d; xtrac = b / 16 % 8 }) (drop (4 * (b / 16 % 8)) rest) (a ∷ b ∷ c ∷ d ∷ e ∷ f ∷ g ∷ h ∷ rest)
+    → IsMain (record { ordh = a % 8; eseq = d; xtrac = b / 16 % 8 }) (drop (4 * (b / 16 % 8)) rest) (a ∷ b ∷ c ∷ d ∷ e ∷ f ∷ g ∷ h ∷ rest)
 main_laid_out a b c d e f g h rest ra rb rc rd main within = record {
-  mh_tp_ordh = a;
+  mh = a / 64;
+  tp = a / 8 % 8;
   p = b / 128;
   ptstamp = b % 16 * 256 + c;
   colour = e ∷ f ∷ g ∷ h ∷ [];
   extra = take (4 * (b / 16 % 8)) rest;
-  is_main = main;
+  is_main = omega arith;
   mh_fits = omega arith;
+  tp_fits = omega arith;
+  ordh_fits = omega arith;
   p_fits = omega arith;
   xtrac_fits = omega arith;
   ptstamp_fits = omega arith;
@@ -36,6 +39,7 @@ main_laid_out a b c d e f g h rest ra rb rc rd main within = record {
   is_colour = refl;
   is_extra = length-take-le (4 * (b / 16 % 8)) rest within;
   whole =
+      let e0 : a / 64 * 64 + a / 8 % 8 * 8 + a % 8 ≡ a = omega arith in
       let e1 : b / 128 * 128 + b / 16 % 8 * 16 + (b % 16 * 256 + c) / 256 ≡ b = omega arith in
       let e2 : (b % 16 * 256 + c) % 256 ≡ c = omega arith in
       let e8 : take (4 * (b / 16 % 8)) rest ++ drop (4 * (b / 16 % 8)) rest ≡ rest = take-append-drop (4 * (b / 16 % 8)) rest in

@@ -10,22 +10,23 @@ use Rattle.wire_model.specs.Laws.{PayloadIsReadOneWay}
 
 -- the values of a Main, from its tests and places
 main_read : (h : MainFields) (b codestream : List ℕ) → nat_le 8 (length b) ≡ true → nat_le 64 (slice_index b 0) ≡ true → nat_le (8 + 4 * xtrac_at b) (length b) ≡ true
-    → slice_index b 3 ≡ h.eseq → xtrac_at b ≡ h.xtrac → drop (8 + 4 * xtrac_at b) b ≡ codestream
+    → slice_index b 0 % 8 ≡ h.ordh → slice_index b 3 ≡ h.eseq → xtrac_at b ≡ h.xtrac → drop (8 + 4 * xtrac_at b) b ≡ codestream
     → (is_payload b ≡ true) × (Main h ≡ payload_fields b) × (codestream ≡ drop (codestream_start b) b)
-main_read h b codestream long main within e x d = (
+main_read h b codestream long main within o e x d = (
   rw (long, main, within) refl,
-  sym (rw (main, e, x) refl),
+  sym (rw (main, o, e, x) refl),
   sym (rw main d),
 )
 
 -- a laid out Main is read
 main_law : (h : MainFields) (codestream b : List ℕ) → IsMain h codestream b → (is_payload b ≡ true) × (Main h ≡ payload_fields b) × (codestream ≡ drop (codestream_start b) b)
 main_law h codestream b r =
-    let main = r.is_main in let pf = r.p_fits in let xf = r.xtrac_fits in let tf = r.ptstamp_fits in
+    let main = r.is_main in let mf = r.mh_fits in let tpf = r.tp_fits in let of = r.ordh_fits in let pf = r.p_fits in let xf = r.xtrac_fits in let tf = r.ptstamp_fits in
     let colour = r.is_colour in let extra = r.is_extra in
-    let front : List ℕ = r.mh_tp_ordh ∷ (r.p * 128 + h.xtrac * 16 + r.ptstamp / 256) ∷ (r.ptstamp % 256) ∷ h.eseq ∷ r.colour in
+    let front : List ℕ = (r.mh * 64 + r.tp * 8 + h.ordh) ∷ (r.p * 128 + h.xtrac * 16 + r.ptstamp / 256) ∷ (r.ptstamp % 256) ∷ h.eseq ∷ r.colour in
     let whole : b ≡ (front ++ r.extra) ++ codestream = r.whole ∙ sym (append_assoc front r.extra codestream) in
-    let e0 : slice_index b 0 ≡ r.mh_tp_ordh = rw r.whole refl in
+    let e0 : slice_index b 0 ≡ r.mh * 64 + r.tp * 8 + h.ordh = rw r.whole refl in
+    let o : slice_index b 0 % 8 ≡ h.ordh = omega arith in
     let e1 : slice_index b 1 ≡ r.p * 128 + h.xtrac * 16 + r.ptstamp / 256 = rw r.whole refl in
     let e3 : slice_index b 3 ≡ h.eseq = rw r.whole refl in
     let x : xtrac_at b ≡ h.xtrac = rw e1 (let y : (r.p * 128 + h.xtrac * 16 + r.ptstamp / 256) / 16 % 8 ≡ h.xtrac = omega arith in y) in
@@ -35,7 +36,7 @@ main_law h codestream b r =
     let t0 : nat_le 8 (length b) ≡ true = grind (arith, nat_tests) in
     let t1 : nat_le 64 (slice_index b 0) ≡ true = grind (arith, nat_tests) in
     let t2 : nat_le (8 + 4 * xtrac_at b) (length b) ≡ true = grind (arith, nat_tests) in
-    main_read h b codestream t0 t1 t2 e3 x (ap (drop (8 + 4 * xtrac_at b)) whole ∙ drop_at (front ++ r.extra) codestream (8 + 4 * xtrac_at b) size)
+    main_read h b codestream t0 t1 t2 o e3 x (ap (drop (8 + 4 * xtrac_at b)) whole ∙ drop_at (front ++ r.extra) codestream (8 + 4 * xtrac_at b) size)
 
 -- the values of a Body, from its tests and places
 body_read : (h : BodyFields) (b codestream : List ℕ) → nat_le 8 (length b) ≡ true → nat_le 64 (slice_index b 0) ≡ false → is_mark_within b ≡ true → body_fields b ≡ h → drop 8 b ≡ codestream

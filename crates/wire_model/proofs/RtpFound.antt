@@ -74,7 +74,7 @@ two_back : (x y : ℕ) → x < 256 → y < 256 → (x ≡ (x * 256 + y) / 256) �
 two_back x y fx fy = (omega arith, omega arith, omega arith)
 
 four_back : (x y z w : ℕ) → x < 256 → y < 256 → z < 256 → w < 256
-    → (x ≡ (((x * 256 + y) * 256 + z) * 256 + w) / 16777216) × (y ≡ (((x * 256 + y) * 256 + z) * 256 + w) / 65536 % 256) × (z ≡ (((x * 256 + y) * 256 + z) * 256 + w) / 256 % 256) × (w ≡ (((x * 256 + y) * 256 + z) * 256 + w) % 256) × (((x * 256 + y) * 256 + z) * 256 + w < 2 ^ 32)
+    → (x ≡ ((x * 256 + y) * 65536 + (z * 256 + w)) / 16777216) × (y ≡ ((x * 256 + y) * 65536 + (z * 256 + w)) / 65536 % 256) × (z ≡ ((x * 256 + y) * 65536 + (z * 256 + w)) / 256 % 256) × (w ≡ ((x * 256 + y) * 65536 + (z * 256 + w)) % 256) × ((x * 256 + y) * 65536 + (z * 256 + w) < 2 ^ 32)
 four_back x y z w fx fy fz fw = (omega arith, omega arith, omega arith, omega arith, omega arith)
 
 found_fixed : (b : List ℕ) (p x : Bool) → IsBytes b → 12 ≤ length b → version b ≡ 2 → is_padded b ≡ p → (slice_index b 0 / 16 % 2 == 1) ≡ x → (take 12 b ≡ fixed_header (rtp_fields b) p x (slice_index b 0 % 16)) × FitRtp (rtp_fields b)

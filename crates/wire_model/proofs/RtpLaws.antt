@@ -53,7 +53,7 @@ first_byte false false s h = (omega arith, omega arith, omega arith, omega arith
 same_fields : (b : List ℕ) (h : RtpFields) → nat_le 128 (slice_index b 1) ≡ h.marker → slice_index b 1 % 128 ≡ h.kind → two_at b 2 ≡ h.number → four_at b 4 ≡ h.stamp → four_at b 8 ≡ h.source → h ≡ rtp_fields b
 same_fields b h m k n t s = rw (m, k, n, t, s) refl
 
-four_back : (n : ℕ) → ((n / 16777216 * 256 + n / 65536 % 256) * 256 + n / 256 % 256) * 256 + n % 256 ≡ n
+four_back : (n : ℕ) → (n / 16777216 * 256 + n / 65536 % 256) * 65536 + (n / 256 % 256 * 256 + n % 256) ≡ n
 four_back n = omega arith
 
 -- the values that a datagram starts with

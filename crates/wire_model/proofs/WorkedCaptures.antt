@@ -33,7 +33,7 @@ unfolding main_header main_of_a
 main_of_a_is_well_formed = refl
 
 -- a Main with the header,
-pub main_of_a_is_read : datagram_of main_of_a ≡ record { rtp = record { marker = false; kind = 96; number = 0; stamp = 0; source = 1 }; payload = Main (record { eseq = 0; xtrac = 0 }); codestream = main_header }
+pub main_of_a_is_read : datagram_of main_of_a ≡ record { rtp = record { marker = false; kind = 96; number = 0; stamp = 0; source = 1 }; payload = Main (record { ordh = 4; eseq = 0; xtrac = 0 }); codestream = main_header }
 unfolding main_header main_of_a
 main_of_a_is_read = refl
 
@@ -78,7 +78,7 @@ unfolding main_header_of_three main_of_b
 main_of_b_is_well_formed = refl
 
 -- a Main with the longer header,
-pub main_of_b_is_read : datagram_of main_of_b ≡ record { rtp = record { marker = false; kind = 96; number = 0; stamp = 0; source = 1 }; payload = Main (record { eseq = 0; xtrac = 0 }); codestream = main_header_of_three }
+pub main_of_b_is_read : datagram_of main_of_b ≡ record { rtp = record { marker = false; kind = 96; number = 0; stamp = 0; source = 1 }; payload = Main (record { ordh = 4; eseq = 0; xtrac = 0 }); codestream = main_header_of_three }
 unfolding main_header_of_three main_of_b
 main_of_b_is_read = refl
 

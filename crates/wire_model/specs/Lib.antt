@@ -1,5 +1,5 @@
 pub mod Causes
-pub mod Bytes
+pub use Rattle.bytes_model.specs.Bytes
 pub mod Framing
 pub mod Rtp
 pub mod RtpReading

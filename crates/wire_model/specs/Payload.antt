@@ -2,8 +2,9 @@
 use Rattle.std.specs.Prelude.{◌≡◌, ◌<◌, ◌≤◌, ◌+◌, ◌-◌, ◌*◌, ◌/◌, ◌%◌, ◌^◌, ℕ, Bool, true, List, ◌∷◌, ◌++◌, length, slice_index}
 use Rattle.wire_model.specs.Bytes.{bit}
 
--- the values of a Main header that are read: ESEQ and XTRAC
+-- The values of a Main header that are read or written: ORDH, ESEQ and XTRAC.
 pub record MainFields : Type 0 where
+  pub ordh : ℕ
   pub eseq : ℕ
   pub xtrac : ℕ
 
@@ -22,13 +23,16 @@ pub data PayloadFields : Type 0 where
 -- The bytes are a Main: MH 2 (not 0), TP 3, ORDH 3, P 1, XTRAC 3, PTSTAMP 12, ESEQ 8, R 1, S 1, C 1, RSVD 4, RANGE 1,
 -- PRIMS 8, TRANS 8, MAT 8 bits; XTRAC times four bytes that are skipped; and the codestream bytes.
 pub record IsMain (h : MainFields) (codestream bytes : List ℕ) : Type 0 where
-  pub mh_tp_ordh : ℕ
+  pub mh : ℕ
+  pub tp : ℕ
   pub p : ℕ
   pub ptstamp : ℕ
   pub colour : List ℕ
   pub extra : List ℕ
-  pub is_main : 64 ≤ mh_tp_ordh
-  pub mh_fits : mh_tp_ordh < 2 ^ 8
+  pub is_main : 1 ≤ mh
+  pub mh_fits : mh < 2 ^ 2
+  pub tp_fits : tp < 2 ^ 3
+  pub ordh_fits : h.ordh < 2 ^ 3
   pub p_fits : p < 2
   pub xtrac_fits : h.xtrac < 2 ^ 3
   pub ptstamp_fits : ptstamp < 2 ^ 12
@@ -36,7 +40,7 @@ pub record IsMain (h : MainFields) (codestream bytes : List ℕ) : Type 0 where
   pub is_colour : length colour ≡ 4
   pub is_extra : length extra ≡ 4 * h.xtrac
   pub whole : bytes ≡
-      mh_tp_ordh
+      (mh * 64 + tp * 8 + h.ordh)
       ∷ (p * 128 + h.xtrac * 16 + ptstamp / 256)
       ∷ (ptstamp % 256)
       ∷ h.eseq

@@ -7,7 +7,7 @@ abbrev pub is_main : List ℕ → Bool
 is_main b = nat_le 64 (slice_index b 0)
 
 abbrev pub main_fields : List ℕ → MainFields
-main_fields b = record { eseq = slice_index b 3; xtrac = xtrac_at b }
+main_fields b = record { ordh = slice_index b 0 % 8; eseq = slice_index b 3; xtrac = xtrac_at b }
 
 abbrev pub body_fields : List ℕ → BodyFields
 body_fields b = record {

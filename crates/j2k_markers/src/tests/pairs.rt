@@ -107,8 +107,7 @@ fn of_two_faults_in_cod_the_first_is_the_answer(rt: HostRuntime) -> Result<(), A
     let faults = [
         refused(59, 60, &[9], 55, HeadWhy::Style),
         refused(59, 60, &[3], 55, HeadWhy::Sop),
-        refused(59, 60, &[5], 55, HeadWhy::Eph),
-        refused(60, 61, &[2], 55, HeadWhy::Order),
+        refused(60, 61, &[1], 55, HeadWhy::Order),
         refused(61, 63, &[0, 2], 55, HeadWhy::Layers),
         refused(64, 65, &[16], 55, HeadWhy::Levels),
         refused(57, 59, &[0, 15], 55, HeadWhy::Length),
@@ -116,8 +115,8 @@ fn of_two_faults_in_cod_the_first_is_the_answer(rt: HostRuntime) -> Result<(), A
         refused(67, 68, &[0], 55, HeadWhy::Style),
         refused(70, 71, &[0x10], 55, HeadWhy::Precinct),
     ];
-    // the first three are of one byte: their pairs are the next table's
-    assert_eq!(rt; pairs_kept(rt.alloc(), &header, &faults)?, Some(42));
+    // the first two are of one byte: their pair is the next table's
+    assert_eq!(rt; pairs_kept(rt.alloc(), &header, &faults)?, Some(35));
     let in_one_byte = [
         (11, HeadWhy::Style),
         (13, HeadWhy::Style),

@@ -54,6 +54,50 @@ fn a_main_header_is_shown_in_lines(rt: HostRuntime) -> Result<(), Fail> {
 }
 
 #[test]
+fn another_order_has_a_line_and_eph_has_none(rt: HostRuntime) -> Result<(), Fail> {
+    let pcrl =
+        "AREA x0=0 y0=0 x1=1 y1=1\nLEVELS 0\nBLOCK 6 6\nCOMP 0 1 1\nPREC 0 15 15\nPSOT 0\nLENGTH 89\n";
+    let rpcl = "AREA x0=0 y0=0 x1=1 y1=1\nLEVELS 0\nORDER 2\nBLOCK 6 6\nCOMP 0 1 1\nPREC 0 15 15\nPSOT 0\nLENGTH 89\n";
+    let cases: [(usize, u8, &str); 2] = [(60, 2, rpcl), (59, 4, pcrl)];
+    for (row, (at, byte, lines)) in cases.iter().enumerate() {
+        let input = changed(rt.alloc(), *at, *at + 1, &[*byte], 0)?;
+        let (status, duct) = run_over(rt.alloc(), &["head"], &input, &[], &[])?;
+        assert_eq!(rt; status, 0, "in row {row}");
+        assert_eq!(rt; duct.written(), lines.as_bytes(), "in row {row}");
+        assert!(rt; duct.told());
+    }
+    Ok(())
+}
+
+/// The header with `components` components, each with the steps 1 and 1.
+fn with_components(alloc: Global, components: u8) -> Result<Vec<u8>, AllocError> {
+    let mut bytes = Vec::from_slice(alloc, &HEADER[..4])?;
+    bytes.extend_from_slice(&[0, 38 + 3 * (components % 32)])?;
+    bytes.extend_from_slice(&HEADER[6..40])?;
+    bytes.extend_from_slice(&[0, components])?;
+    for _ in 0..components {
+        bytes.extend_from_slice(&[7, 1, 1])?;
+    }
+    bytes.extend_from_slice(&HEADER[45..])?;
+    Ok(bytes)
+}
+
+#[test]
+fn up_to_sixteen_components_are_shown(rt: HostRuntime) -> Result<(), Fail> {
+    let input = with_components(rt.alloc(), 16)?;
+    assert_eq!(rt; input.len(), 134);
+    let (status, duct) = run_over(rt.alloc(), &["head"], &input, &[], &[])?;
+    assert_eq!(rt; status, 0);
+    let lines = duct.written().split(|byte| *byte == b'\n');
+    assert_eq!(rt; lines.filter(|line| line.starts_with(b"COMP ")).count(), 16);
+    let input = with_components(rt.alloc(), 17)?;
+    let (status, duct) = run_over(rt.alloc(), &["head"], &input, &[], &[])?;
+    assert_eq!(rt; status, 6);
+    assert_eq!(rt; duct.noted(), b"scl: refused at 2: components\n".as_slice());
+    Ok(())
+}
+
+#[test]
 fn a_faulty_header_is_refused_at_its_place(rt: HostRuntime) -> Result<(), Fail> {
     let cases: [(usize, usize, &[u8], &str); 17] = [
         (0, 89, &[], "scl: refused at 0: cut\n"),
@@ -69,8 +113,8 @@ fn a_faulty_header_is_refused_at_its_place(rt: HostRuntime) -> Result<(), Fail> 
         ),
         (40, 42, &[0, 0], "scl: refused at 2: components\n"),
         (59, 60, &[2], "scl: refused at 55: sop\n"),
-        (59, 60, &[4], "scl: refused at 55: eph\n"),
-        (60, 61, &[2], "scl: refused at 55: order\n"),
+        (40, 42, &[0, 17], "scl: refused at 2: components\n"),
+        (60, 61, &[1], "scl: refused at 55: order\n"),
         (73, 74, &[0x42], "scl: refused at 69: quant\n"),
         (45, 55, &[], "scl: refused at 65: missing ff50\n"),
         (

@@ -30,6 +30,9 @@ const LINES: [&str; 13] = [
     "O pid=9 c=1 r=1 k=3 y=8 x=16\n",
 ];
 
+/// The PIDs of that image's precincts in RPCL order.
+const BY_RESOLUTION: [u8; 13] = [0, 1, 2, 4, 3, 6, 8, 5, 10, 7, 12, 14, 9];
+
 /// An image of the one sample at (1, 0), with one decomposition level and no precinct sizes.
 const ODD_SAMPLE: [u8; 92] = [
     0xFF, 0x4F, 0xFF, 0x51, 0x00, 0x29, 0x40, 0x00, 0x00, 0x00, 0x00, 0x02, 0x00, 0x00, 0x00, 0x01,
@@ -122,6 +125,27 @@ fn a_fault_leaves_the_lines_before_it(rt: HostRuntime) -> Result<(), Fail> {
     assert_eq!(rt; run(rt.alloc(), &words, &mut duct), 3);
     assert_eq!(rt; duct.written(), [].as_slice());
     assert_eq!(rt; duct.noted(), b"scl: read fault\n".as_slice());
+    assert!(rt; duct.told());
+    Ok(())
+}
+
+#[test]
+fn a_header_with_order_2_is_shown_in_rpcl_order(rt: HostRuntime) -> Result<(), Fail> {
+    let mut input = Vec::from_slice(rt.alloc(), &TWO_COMPONENTS)?;
+    input[63] = 2;
+    let (status, duct) = run_over(rt.alloc(), &["order"], &input, &[], &[])?;
+    assert_eq!(rt; status, 0);
+    for (row, (line, pid)) in duct
+        .written()
+        .split(|byte| *byte == b'\n')
+        .zip(BY_RESOLUTION)
+        .enumerate()
+    {
+        let start = format!(in rt.alloc(); "O pid={pid} ")?;
+        assert!(rt; line.starts_with(start.as_bytes()), "in row {row}");
+    }
+    let lines = duct.written().iter().filter(|byte| **byte == b'\n');
+    assert_eq!(rt; lines.count(), 13);
     assert!(rt; duct.told());
     Ok(())
 }

@@ -1,4 +1,4 @@
-use Rattle.codestream_model.proofs.OneWayLemmas.{one_run}
+use Rattle.codestream_model.proofs.PacketsOneWay.{one_run}
 use Rattle.codestream_model.proofs.packet_laws.packet_runs_are_read_one_way.Goals as goal
 
 pub returns : goal.returns

@@ -1,14 +1,26 @@
-use Rattle.std.proofs.Common.{◌≡◌, ◌++◌, Ok, ap, sym, ◌∙◌, List, ℕ}
+use Rattle.std.proofs.Common.{◌≡◌, ◌++◌, Ok, ap, sym, ◌∙◌, List, ℕ, take, drop}
 use Rattle.std.specs.Prelude.{Result}
 use Rattle.std.proofs.lemmas.Result.{err_from_is_err_and}
 use Rattle.codestream_model.specs.HeadRefusals.{Test, first_refusal}
 use Rattle.codestream_model.specs.SegmentTests.{siz_tests}
-use Rattle.j2k_markers.specs.Parts.{count_tests, area_tests, one_tile_tests, step_tests}
 use Rattle.j2k_markers.specs.Refusals.{judged}
 use Rattle.j2k_markers.specs.declared.head.HeadWhy.{HeadWhy}
 use Rattle.j2k_markers.proofs.Judges.{stops, goes_on}
 use Rattle.j2k_markers.proofs.Lists.{siz_parts}
 use Rattle.j2k_markers.proofs.components.judge_siz.Goals as goal
+
+-- the conditions on the components, on the area, on the tile and on the steps
+abbrev count_tests : List ℕ → List Test
+count_tests c = take 4 (siz_tests c)
+
+abbrev area_tests : List ℕ → List Test
+area_tests c = take 4 (drop 4 (siz_tests c))
+
+abbrev one_tile_tests : List ℕ → List Test
+one_tile_tests c = take 4 (drop 8 (siz_tests c))
+
+abbrev step_tests : List ℕ → List Test
+step_tests c = drop 12 (siz_tests c)
 
 -- the conditions as they are judged
 parts : (c : List ℕ) → judged (first_refusal (siz_tests c)) ≡ judged (first_refusal (count_tests c ++ (area_tests c ++ (one_tile_tests c ++ step_tests c))))

@@ -4,8 +4,8 @@ use Rattle.j2k_markers.proofs.tiles.fields_of.Goals as goal
 
 pub returns-clause-sound : goal.returns-clause-sound
 returns-clause-sound c = record {
-  few = c.requires.cod.is_whole.few;
-  each = each_precinct c.args.cod.now c.precincts_of.result.items c.precincts_of.ensures;
-  steps = rw c.steps_of.ensures (some_steps _ c.requires.siz.steps);
-  exponents = rw c.precincts_of.ensures (small_precincts c.args.cod.now (λ i. omega (arith, c.type_inv.cod i)));
+  few = rw c.cod_levels.ensures c.requires.cod.is_whole.few;
+  each = rw c.cod_levels.ensures (each_precinct c.args.cod.now c.cod_precincts.result.items c.cod_precincts.ensures);
+  steps = rw c.siz_steps.ensures (some_steps _ c.requires.siz.steps);
+  exponents = rw c.cod_precincts.ensures (small_precincts c.args.cod.now (λ i. omega (arith, c.type_inv.cod i)));
 }

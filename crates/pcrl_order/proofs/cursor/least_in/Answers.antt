@@ -39,4 +39,4 @@ returns-clause-some c =
     let columns = c.columns-columns.ensures in
     let of : AreOf c.args.geometry.now c.args.c c.args.r c.rows-rows.result c.columns-columns.result = record { y_start = rows.start; y_first = rows.first; y_width = rows.width; y_count = rows.count; x_start = columns.start; x_first = columns.first; x_width = columns.width; x_count = columns.count } in
     let least = least_is c.args.geometry.now c.args.c c.args.r c.args.y c.args.x c.rows-rows.result c.columns-columns.result c.row_and_column-row.result.0 c.row_and_column-row.result.1 of c.row_and_column-row.ensures.choice (omega (arith, c.if-from-row.false, c.from.ensures)) (c.row_and_column-row.ensures.column (omega (arith, c.if-columns-eq0.false))) in
-    rw (c.anchor.ensures, c.anchor-2.ensures) least
+    rw (c.rank.ensures, c.anchor.ensures, c.anchor-2.ensures) least

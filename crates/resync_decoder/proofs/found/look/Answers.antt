@@ -32,18 +32,18 @@ read-requires-clause-own_bands c = let P : List Grid → Type 0 = λ l. HaveOwnB
 pub returns-in-Done-clause-found : goal.returns-in-Done-clause-found
 returns-in-Done-clause-found c =
     let some = some_bytes c.args.bytes.now (sym c.is_empty.ensures ∙ c.if-is_empty.false) in
-    let found = (finds_by c.args.geometry.now (place_of c.args.place) c.args.bytes.now (map grid_of c.bands.result.items) c.read.result c.read.new.self.blocks some (omega (arith, c.if-blocks-from.false, c.from.ensures, c.blocks-2.ensures)) c.bands.ensures c.read.ensures.judged).0 c.in-Done.used c.in-Done.is in
+    let found = (finds_by c.args.geometry.now (place_of c.args.place) c.args.bytes.now (map grid_of c.bands.result.items) c.eph-eph.result c.read.result c.read.new.self.blocks some (omega (arith, c.if-blocks-from.false, c.from.ensures, c.blocks-2.ensures)) c.bands.ensures (c.eph-eph.ensures ∙ ap (λ h. h.eph) c.head.ensures) c.read.ensures.judged).0 c.in-Done.used c.in-Done.is in
     subst (answer (found_packet c.args.geometry.now (place_of c.args.place) c.args.bytes.now) c.read.new.self.blocks) (sym (c.judge.ensures ∙ ap (λ l. found_by (c.in-Done.used + segment_bytes (map block_of l)) c.in-Done.used (length c.args.bytes.now)) c.blocks-in-Done.ensures)) found
 
 pub returns-in-Need-clause-found : goal.returns-in-Need-clause-found
 returns-in-Need-clause-found c =
     let some = some_bytes c.args.bytes.now (sym c.is_empty.ensures ∙ c.if-is_empty.false) in
-    (finds_by c.args.geometry.now (place_of c.args.place) c.args.bytes.now (map grid_of c.bands.result.items) c.read.result c.read.new.self.blocks some (omega (arith, c.if-blocks-from.false, c.from.ensures, c.blocks-2.ensures)) c.bands.ensures c.read.ensures.judged).1 c.in-Need.is
+    (finds_by c.args.geometry.now (place_of c.args.place) c.args.bytes.now (map grid_of c.bands.result.items) c.eph-eph.result c.read.result c.read.new.self.blocks some (omega (arith, c.if-blocks-from.false, c.from.ensures, c.blocks-2.ensures)) c.bands.ensures (c.eph-eph.ensures ∙ ap (λ h. h.eph) c.head.ensures) c.read.ensures.judged).1 c.in-Need.is
 
 pub returns-in-Bad-clause-found : goal.returns-in-Bad-clause-found
 returns-in-Bad-clause-found c =
     let some = some_bytes c.args.bytes.now (sym c.is_empty.ensures ∙ c.if-is_empty.false) in
-    (finds_by c.args.geometry.now (place_of c.args.place) c.args.bytes.now (map grid_of c.bands.result.items) c.read.result c.read.new.self.blocks some (omega (arith, c.if-blocks-from.false, c.from.ensures, c.blocks-2.ensures)) c.bands.ensures c.read.ensures.judged).2 c.in-Bad.field-0 c.in-Bad.is
+    (finds_by c.args.geometry.now (place_of c.args.place) c.args.bytes.now (map grid_of c.bands.result.items) c.eph-eph.result c.read.result c.read.new.self.blocks some (omega (arith, c.if-blocks-from.false, c.from.ensures, c.blocks-2.ensures)) c.bands.ensures (c.eph-eph.ensures ∙ ap (λ h. h.eph) c.head.ensures) c.read.ensures.judged).2 c.in-Bad.field-0 c.in-Bad.is
 
 pub returns-then-is_empty-clause-within : goal.returns-then-is_empty-clause-within
 returns-then-is_empty-clause-within c = within c.args.geometry.now (place_of c.args.place) c.args.bytes.now found.Part c.args.reader.now.blocks (λ i. omega (arith, c.type_inv.bytes i)) (returns-then-is_empty-clause-found c)

@@ -1,3 +1,5 @@
+use Rattle.std.proofs.Common.{◌≡◌, Some, None}
+use Rattle.scl_cli.specs.declared.command.Command.TheVariants.{Report}
 use Rattle.scl_cli.proofs.Runs.{spells_nothing, ran, decided, wanted}
 use Rattle.scl_cli.proofs.Reported.{reported}
 use Rattle.scl_cli.proofs.top_call.run.Goals as goal
@@ -16,3 +18,6 @@ returns-in_default-clause-ran g c = spells_nothing _ _ _ c.in_default.ensures.al
 
 pub returns-clause-report : goal.returns-clause-report
 returns-clause-report g c = λ pick spells. reported _ pick _ _ _ _ _ _ (c.in-Some.ensures.all _ spells) spells.0 c.finish.ensures.status c.perform-ending.ensures.1 c.finish.ensures.note
+
+pub returns-in_default-clause-report : goal.returns-in_default-clause-report
+returns-in_default-clause-report g c = λ pick spells. let e : None ≡ Some (Report pick) = c.in_default.ensures.all (Report pick) spells in absurd (cc)

@@ -7,6 +7,7 @@ use Rattle.codestream_walk.specs.Walking.{Stage, AtNext, Seen, Walking, Wants, R
 use Rattle.codestream_walk.specs.Staging.{stage_of}
 use Rattle.codestream_walk.specs.Progressions.{after_packet}
 use Rattle.codestream_walk.specs.Faults.{walk_refusal}
+use Rattle.codestream_walk.proofs.Packets.{needs_short}
 use Rattle.codestream_walk.proofs.Stages.{at_next, next_place, gives_start, sound_started, same_stage, wants_packet, refuses_packet, refused_answer, start_seen, has_begun, walk_of}
 use Rattle.codestream_walk.proofs.pieces.Pieces.judge_next.Goals as goal
 
@@ -65,8 +66,8 @@ returns-in-Wants c =
     let parts = at_next i.state b (place_of i.place) (map block_of i.reader.blocks) i.size i.left c.requires.0 c.requires.1 c.requires.2 f in
     let judged = rw (c.bytes.ensures, c.geometry.ensures) at c.in-Wants.ensures.judged in
     let walk : walk_of i.input i.codestreams (stage_of i.state (Some b) (place_of i.place) (map block_of i.reader.blocks) i.size i.left) ≡ c.args.self.now.walk = rw c.in-Some.is at (ap (λ (v : Seen). v.walk) c.self.view_is) in
-    let P : Walking → Type 0 = λ w. Wants w × (length w.hand < 65536) in
-    let short : length i.input.bytes < 65536 = judged.1.short in
+    let P : Walking → Type 0 = λ w. Wants w × (length w.hand < 65538) in
+    let short : length i.input.bytes < 65538 = needs_short b.head _ i.input.bytes judged.1 in
     let wants = subst P walk (wants_packet b _ c.requires.0 _ _ c.requires.2 i.codestreams i.input.bytes n parts.1 judged.0 judged.1, short) in
     record {
       walk = (ap (λ (s : Stage). walk_of i.input i.codestreams s) (same_stage i.state b (place_of i.place) (map block_of i.reader.blocks) (map block_of c.judge_packet.new.reader.blocks) i.size i.left c.requires.0 c.requires.1 c.requires.2 f) ∙ walk);
@@ -74,3 +75,14 @@ returns-in-Wants c =
       wants = wants.0;
       short = wants.1;
     }
+
+pub overflow_add-self : goal.overflow_add-self
+overflow_add-self c =
+    let i = c.self.inside in
+    let b = c.in-Some.begun in
+    let e = ap (λ (v : Seen). v.walk.stage) c.self.view_is ∙ c.requires.3 in
+    let f : stage_of i.state (Some b) (place_of i.place) (map block_of i.reader.blocks) i.size i.left ≡ AtNext c.requires.0 c.requires.1 c.requires.2 = rw c.in-Some.is at e in
+    let parts = at_next i.state b (place_of i.place) (map block_of i.reader.blocks) i.size i.left c.requires.0 c.requires.1 c.requires.2 f in
+    let P : Stage → Type 0 = λ s. IsSound s i.codestreams i.input.offset in
+    let sound = subst P e c.self.invariant.1 in
+    omega (arith, sound.1, parts.3, c.in-Whole.ensures.judged.3, c.offset-at.ensures.within)

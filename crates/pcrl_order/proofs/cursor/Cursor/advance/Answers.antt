@@ -16,10 +16,10 @@ pub returns-in_default-clause-last : goal.returns-in_default-clause-last
 returns-in_default-clause-last c =
     let limits = subst IsWithinLimits c.head.ensures c.is_within_limits.ensures in
     let P : Place → Type 0 = λ w. later c.args.geometry.now w ≡ [] in
-    λ said. (subst P c.self.view_is (last_is c.args.geometry.now (place_of c.self.inside.place) c.anchor-y.result.0 c.anchor-y.result.1 limits c.anchor-y.ensures.y c.anchor-y.ensures.x (rw c.in_default.is at c.least_from.ensures)), refl)
+    λ said. (subst P c.self.view_is (last_is c.args.geometry.now (place_of c.self.inside.place) c.rank.result c.anchor-y.result.0 c.anchor-y.result.1 limits (record { rank_is = c.rank.ensures; y_is = c.anchor-y.ensures.y; x_is = c.anchor-y.ensures.x }) (rw c.in_default.is at c.least_from.ensures)), refl)
 
 pub returns-clause-next : goal.returns-clause-next
 returns-clause-next c =
     let limits = subst IsWithinLimits c.head.ensures c.is_within_limits.ensures in
     let P : Place → Type 0 = λ w. later c.args.geometry.now w ≡ place_in c.in-Some.next ∷ later c.args.geometry.now (place_in c.in-Some.next) in
-    λ said. subst P c.self.view_is (next_is c.args.geometry.now (place_of c.self.inside.place) c.anchor-y.result.0 c.anchor-y.result.1 c.in-Some.next limits c.anchor-y.ensures.y c.anchor-y.ensures.x (rw c.in-Some.is at c.least_from.ensures))
+    λ said. subst P c.self.view_is (next_is c.args.geometry.now (place_of c.self.inside.place) c.rank.result c.anchor-y.result.0 c.anchor-y.result.1 c.in-Some.next limits (record { rank_is = c.rank.ensures; y_is = c.anchor-y.ensures.y; x_is = c.anchor-y.ensures.x }) (rw c.in-Some.is at c.least_from.ensures))

@@ -6,5 +6,5 @@ use Rattle.scl_outside.proofs.memory.DuctMemDuct.read.Goals as goal
 pub returns-clause-step : goal.returns-clause-step
 returns-clause-step c =
     let m = c.mark.ensures in
-    took c.args.self.now c.mark.new.self c.take.new.self no_wire c.take.result c.take.new.buf m.mark
-    (is_call c.take.result c.take.new.buf (length c.args.buf.now) c.take.auto.buf c.take.ensures.fits) (search rules) m.marks m.same c.take.ensures.takes
+    took c.args.self.now c.mark.new.self c.take-out.new.self no_wire c.take-out.result c.take-out.new.buf m.mark
+    (is_call c.take-out.result c.take-out.new.buf (length c.args.buf.now) c.take-out.auto.buf c.take-out.ensures.fits c.are_bytes.ensures) (search rules) m.marks m.same c.take-out.ensures.takes

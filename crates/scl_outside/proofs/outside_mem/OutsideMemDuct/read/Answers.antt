@@ -11,6 +11,6 @@ pub returns-clause-step : goal.returns-clause-step
 returns-clause-step c =
     let o = c.args.self.now in
     let m = c.mark.ensures in
-    let P : WireMem → Type 0 = λ w. Step (outside_meaning o) (read_event c.take.result c.take.new.buf) (outside_meaning (record { duct = c.take.new.self; wire = w })) in
-    subst P (sym m.wire) (took o.duct c.mark.new.self.duct c.take.new.self (wire_of o.wire) c.take.result c.take.new.buf m.mark
-    (is_call c.take.result c.take.new.buf (length c.args.buf.now) c.take.auto.buf c.take.ensures.fits) m.is m.marks m.same c.take.ensures.takes)
+    let P : WireMem → Type 0 = λ w. Step (outside_meaning o) (read_event c.take-out.result c.take-out.new.buf) (outside_meaning (record { duct = c.take-out.new.self; wire = w })) in
+    subst P (sym m.wire) (took o.duct c.mark.new.self.duct c.take-out.new.self (wire_of o.wire) c.take-out.result c.take-out.new.buf m.mark
+    (is_call c.take-out.result c.take-out.new.buf (length c.args.buf.now) c.take-out.auto.buf c.take-out.ensures.fits c.are_bytes.ensures) m.is m.marks m.same c.take-out.ensures.takes)

@@ -1,0 +1,5 @@
+use Rattle.codestream_model.proofs.Marked.{marked_refusal_read}
+use Rattle.codestream_model.proofs.packet_laws.marked_refusals_are_read.Goals as goal
+
+pub returns : goal.returns
+returns c = marked_refusal_read

@@ -1,0 +1,10 @@
+pub mod Calls
+pub mod Tracked
+pub mod Turned
+pub mod Rounds
+pub mod Working
+pub mod Served
+pub mod Flushed
+pub mod Lists
+pub mod Named
+pub mod Finished

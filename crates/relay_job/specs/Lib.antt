@@ -1,0 +1,9 @@
+pub mod Settings
+pub mod Held
+pub mod Turns
+pub mod Job
+pub mod Naming
+pub mod Serving
+pub mod Draining
+pub mod Lines
+pub mod Ending
