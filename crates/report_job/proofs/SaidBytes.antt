@@ -31,7 +31,7 @@ in_packets h (q ∷ places) p (y ∷ said) x packets b (front, back, s, rest, e)
 -- a byte of a payload's codestream bytes is one of it
 in_payload : (h : PayloadFields) (codestream payload : List ℕ) (b : ℕ) → IsPayload h codestream payload → Contains codestream b → Contains payload b
 in_payload (Main h) codestream payload b is has =
-    let fixed : List ℕ = is.mh_tp_ordh ∷ (is.p * 128 + h.xtrac * 16 + is.ptstamp / 256) ∷ (is.ptstamp % 256) ∷ h.eseq ∷ [] in
+    let fixed : List ℕ = (is.mh * 64 + is.tp * 8 + h.ordh) ∷ (is.p * 128 + h.xtrac * 16 + is.ptstamp / 256) ∷ (is.ptstamp % 256) ∷ h.eseq ∷ [] in
     within (fixed ++ (is.colour ++ (is.extra ++ codestream))) payload b is.whole
     (Contains-append_right fixed (is.colour ++ (is.extra ++ codestream)) b (Contains-append_right is.colour (is.extra ++ codestream) b (Contains-append_right is.extra codestream b has)))
 in_payload (Body h) codestream payload b is has =

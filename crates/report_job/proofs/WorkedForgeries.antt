@@ -9,7 +9,8 @@ use Rattle.codestream_model.specs.TagTrees.{halvings, levels_from}
 use Rattle.codestream_model.specs.PacketHeaderReading.{Done, header_of, read_bits}
 use Rattle.codestream_model.proofs.OwnBands.{own_bands}
 use Rattle.codestream_model.proofs.SoundLemmas.{header_sound}
-use Rattle.codestream_model.proofs.WorkedPackets.{head_of_three, precinct, first_packet_of_three}
+use Rattle.codestream_model.proofs.WorkedGeometry.{three_samples}
+use Rattle.codestream_model.proofs.WorkedPackets.{precinct, first_packet_of_three}
 use Rattle.codestream_model.proofs.WorkedPacketHeaders.{one_grid, block}
 use Rattle.codestream_model.proofs.WorkedRelations.{bytes_if_tested}
 use Rattle.wire_model.specs.Datagram.{datagram_of}
@@ -72,11 +73,15 @@ empty_header_is_read : header_of one_grid (100 ∷ []) ≡ Done 1 []
 unfolding header_of read_bits carried_after sound_after bytes_of_bits number_bits number_of halvings levels_from
 empty_header_is_read = refl
 
-empty_packet : SpellsPacket head_of_three (precinct 1) nothing (100 ∷ [])
+empty_packet : SpellsPacket three_samples (precinct 1) nothing (100 ∷ [])
 empty_packet = record {
   header = 100 ∷ [];
   few_blocks = omega arith;
-  is_header = header_sound one_grid (100 ∷ []) 1 [] (bytes_if_tested (100 ∷ []) refl) (own_bands head_of_three (precinct 1)) empty_header_is_read;
+  is_header = record {
+    header = 100 ∷ [];
+    is_header = header_sound one_grid (100 ∷ []) 1 [] (bytes_if_tested (100 ∷ []) refl) (own_bands three_samples (precinct 1)) empty_header_is_read;
+    whole = refl;
+  };
   segments = refl;
   whole = refl;
   short = omega arith;
@@ -90,7 +95,7 @@ read_at_the_mark = (
     main = datagram_of main_of_b;
     first = datagram_of body_with_mark_at_13;
     others = [];
-    head = head_of_three;
+    head = three_samples;
     before = precinct 0 ∷ [];
     start = precinct 1;
     places = [];
@@ -126,7 +131,7 @@ read_from_the_main = (
     main = datagram_of main_of_b;
     first = datagram_of body_with_pid_3;
     others = datagram_of second_body_of_b ∷ [];
-    head = head_of_three;
+    head = three_samples;
     before = [];
     start = precinct 0;
     places = [];

@@ -17,6 +17,9 @@ scl carries JPEG 2000 codestreams over RTP. It reads standard input and writes s
                                   0 to 7: each Main, and each Body whose RES is at most T
   scl report KIND SOURCE WINDOW   shows the precincts that a capture gives of a stream, each as soon as it is
                                   complete; SOURCE is an SSRC or any, WINDOW 1 to 16384 datagrams
+  scl relay MAX IDLE LOCAL PEER T DEPTH ..
+                                  passes on MAX datagrams at most that come to LOCAL to 1 to 64 receivers, each with
+                                  an address, a limit and a queue; ends after IDLE milliseconds of silence
   scl parse STAMP STEP            shows the packets of codestreams, with their timestamps
   scl head                        shows the main header at the front of a codestream
   scl order                       shows the precincts of that header's image in packet order

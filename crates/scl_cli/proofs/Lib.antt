@@ -9,3 +9,4 @@ pub mod SoFar
 pub mod Runs
 pub mod MachineSteps
 pub mod Reported
+pub mod RelaySpelt

@@ -1,8 +1,9 @@
 -- The grammar of a command line.
 use Rattle.std.specs.Prelude.{◌≡◌, ◌≤◌, ◌<◌, ◌^◌, ℕ, List, [], ◌∷◌, Option, Some, None, codes, decimal}
 use Rattle.stream_receiver.specs.declared.pick.Pick.{Pick}
+use Rattle.relay_job.specs.Settings.{Target, AreSettings}
 use Rattle.scl_cli.specs.declared.command.Command.{Command}
-use Rattle.scl_cli.specs.declared.command.Command.TheVariants.{Thin, Head, Order, Parse, Report}
+use Rattle.scl_cli.specs.declared.command.Command.TheVariants.{Thin, Head, Order, Parse, Report, Relay}
 use Rattle.scl_cli.specs.declared.command.Stamps.{Stamps}
 use Rattle.scl_cli.specs.declared.command.Verb.{Verb}
 use Rattle.scl_cli.specs.declared.command.Verb.TheVariants as verb
@@ -14,6 +15,7 @@ verb_word verb.Head = codes "head"
 verb_word verb.Order = codes "order"
 verb_word verb.Parse = codes "parse"
 verb_word verb.Report = codes "report"
+verb_word verb.Relay = codes "relay"
 
 -- The ranges of a timestamp and of a step.
 pub record IsStamps (stamps : Stamps) : Type 0 where
@@ -38,6 +40,11 @@ pub record IsPick (pick : Pick) : Type 0 where
   pub some : 1 ≤ pick.window
   pub few : pick.window ≤ 16384
 
+-- The words of receivers: the address, the limit and the depth of each.
+abbrev pub target_words : List Target → List (List ℕ)
+target_words [] = []
+target_words (r ∷ targets) = r.address ∷ decimal r.limit ∷ decimal r.depth ∷ target_words targets
+
 -- How a command is spelt: its first word, the other words, and the ranges of its values.
 pub record Form : Type 1 where
   pub verb : Verb
@@ -51,6 +58,7 @@ form Head = record { verb = verb.Head; values = []; IsInRange = Unit {0} }
 form Order = record { verb = verb.Order; values = []; IsInRange = Unit {0} }
 form (Parse stamps) = record { verb = verb.Parse; values = decimal stamps.first ∷ decimal stamps.step ∷ []; IsInRange = IsStamps stamps }
 form (Report pick) = record { verb = verb.Report; values = decimal pick.kind ∷ source_word pick.source ∷ decimal pick.window ∷ []; IsInRange = IsPick pick }
+form (Relay s) = record { verb = verb.Relay; values = decimal s.max ∷ decimal s.idle ∷ s.local ∷ target_words s.targets; IsInRange = AreSettings s }
 
 -- The first word of a command, as a name.
 abbrev pub verb_of : Command → Verb

@@ -1,4 +1,5 @@
 pub mod Commands
+pub mod RelayWords
 pub mod HeadLines
 pub mod OrderLines
 pub mod ThinJob

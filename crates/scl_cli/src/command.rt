@@ -8,12 +8,14 @@ use crate::Words;
 use crate::head::head_of;
 use crate::order::order_of;
 use crate::parse::parse_of;
+use crate::relay::relay_of;
 use crate::report::report_of;
 use crate::thin::thin_of;
+use relay_job::Settings;
 use stream_receiver::Pick;
 
 /// What the program is asked to do.
-#[derive(Clone, Copy, Debug, PartialEq, Eq)]
+#[derive(Drop)]
 pub enum Command {
     /// `thin T`: pass on the frames of a capture that serve a receiver with the limit T, 0 to 7.
     Thin(u8),
@@ -25,6 +27,8 @@ pub enum Command {
     Parse(Stamps),
     /// `report KIND SOURCE WINDOW`: write the lines of the precincts that a capture gives of a stream.
     Report(Pick),
+    /// `relay MAX IDLE LOCAL` and 1 to 64 times `PEER T DEPTH`: pass on datagrams to each receiver.
+    Relay(Settings),
 }
 
 /// The timestamps of codestreams: that of the first, and the step from one to the next, at least 1, modulo 2^32.
@@ -42,6 +46,7 @@ pub enum Verb {
     Order,
     Parse,
     Report,
+    Relay,
 }
 
 /// The command that a word begins.
@@ -55,6 +60,7 @@ fn verb_in(word: &str) -> Option<Verb>
         "order" => Some(Verb::Order),
         "parse" => Some(Verb::Parse),
         "report" => Some(Verb::Report),
+        "relay" => Some(Verb::Relay),
         _ => None,
     }
 }
@@ -73,5 +79,6 @@ pub fn command_of(words: &Words) -> Option<Command>
         Verb::Order => order_of(words),
         Verb::Parse => parse_of(words),
         Verb::Report => report_of(words),
+        Verb::Relay => relay_of(words),
     }
 }

@@ -10,6 +10,7 @@ mod numbers;
 mod order;
 mod order_lines;
 mod parse;
+mod relay;
 mod report;
 mod socket;
 mod texts;

@@ -16,6 +16,7 @@ mod hostile;
 mod machines;
 mod orders;
 mod parses;
+mod relays;
 mod reports;
 mod sure;
 

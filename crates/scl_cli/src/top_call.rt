@@ -14,6 +14,7 @@ use crate::head::show_head;
 use crate::order::show_order;
 use crate::thin::thin;
 use parse_job::parse;
+use relay_job::relay;
 use report_job::report;
 use scl_outside::Outside;
 use scl_run::{Ending, finish};
@@ -31,6 +32,7 @@ fn perform<O: Outside>(alloc: Global, command: Command, out: &mut O) -> Ending
         Command::Order => show_order(out),
         Command::Parse(stamps) => parse(alloc, stamps.first, stamps.step, out),
         Command::Report(pick) => report(alloc, pick, out),
+        Command::Relay(settings) => relay(alloc, &settings, out),
     }
 }
 

@@ -57,7 +57,8 @@ fn a_main_header_is_shown_in_lines(rt: HostRuntime) -> Result<(), Fail> {
 fn another_order_has_a_line_and_eph_has_none(rt: HostRuntime) -> Result<(), Fail> {
     let pcrl =
         "AREA x0=0 y0=0 x1=1 y1=1\nLEVELS 0\nBLOCK 6 6\nCOMP 0 1 1\nPREC 0 15 15\nPSOT 0\nLENGTH 89\n";
-    let rpcl = "AREA x0=0 y0=0 x1=1 y1=1\nLEVELS 0\nORDER 2\nBLOCK 6 6\nCOMP 0 1 1\nPREC 0 15 15\nPSOT 0\nLENGTH 89\n";
+    let rpcl =
+        "AREA x0=0 y0=0 x1=1 y1=1\nLEVELS 0\nORDER 2\nBLOCK 6 6\nCOMP 0 1 1\nPREC 0 15 15\nPSOT 0\nLENGTH 89\n";
     let cases: [(usize, u8, &str); 2] = [(60, 2, rpcl), (59, 4, pcrl)];
     for (row, (at, byte, lines)) in cases.iter().enumerate() {
         let input = changed(rt.alloc(), *at, *at + 1, &[*byte], 0)?;

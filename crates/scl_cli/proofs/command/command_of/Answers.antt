@@ -15,3 +15,6 @@ report_of-requires c = rw c.in-Report.is at (begins _ _ _ c.get.ensures c.in_ok-
 
 pub parse_of-requires : goal.parse_of-requires
 parse_of-requires c = rw c.in-Parse.is at (begins _ _ _ c.get.ensures c.in_ok-verb_in.ensures.named)
+
+pub relay_of-requires : goal.relay_of-requires
+relay_of-requires c = rw c.in-Relay.is at (begins _ _ _ c.get.ensures c.in_ok-verb_in.ensures.named)
