@@ -129,7 +129,7 @@ broken_read gs bytes bands t =
     ∙ (end_is bytes front s ∙ ap (λ (b : Bool). end_by (if b then Some (length front) else None) (length bytes)) within)
 
 -- a fault stays where more bits follow
-fault_stays : (gs : List Grid) (bits more : List Bool) (why : HeaderRefusal) → HasFault gs bits why → HasFault gs (bits ++ more) why
+pub fault_stays : (gs : List Grid) (bits more : List Bool) (why : HeaderRefusal) → HasFault gs bits why → HasFault gs (bits ++ more) why
 fault_stays gs bits more why h = record {
   blocks = h.blocks;
   choices = h.choices;

@@ -167,18 +167,18 @@ psot_right h at e = elim (eqb_tells h.psot 0) [
 ]
 
 -- a wrong Psot fails it
-psot_failed : (h : Head) (at : ℕ) → (IsPsotRight h at → ⊥) → is_psot h at ≡ false
+pub psot_failed : (h : Head) (at : ℕ) → (IsPsotRight h at → ⊥) → is_psot h at ≡ false
 psot_failed h at wrong = elim (either (is_psot h at)) [ inl t ↦ absurd (wrong (psot_right h at t)) | inr t ↦ t ]
 
 -- two bytes that aren't EOC
-other_eoc : (at a b : ℕ) (more : List ℕ) → ((a ≡ 255) × (b ≡ 217) → ⊥) → at_eoc true at (a ∷ b ∷ more) ≡ Refuses at NoEoc
+pub other_eoc : (at a b : ℕ) (more : List ℕ) → ((a ≡ 255) × (b ≡ 217) → ⊥) → at_eoc true at (a ∷ b ∷ more) ≡ Refuses at NoEoc
 other_eoc at a b more differ = elim (either ((a == 255) && (b == 217))) [
   | inl t ↦ let p = and_parts (a == 255) (b == 217) t in absurd (differ (equal_number a 255 p.0, equal_number b 217 p.1))
   | inr t ↦ ap (λ (c : Bool). if c then Whole (at + 2) else Refuses at NoEoc) t
 ]
 
 -- fewer than two bytes
-short_eoc : (at : ℕ) (rest : List ℕ) → length rest < 2 → at_eoc true at rest ≡ Wants
+pub short_eoc : (at : ℕ) (rest : List ℕ) → length rest < 2 → at_eoc true at rest ≡ Wants
 short_eoc at [] less = refl
 short_eoc at (a ∷ []) less = refl
 short_eoc at (a ∷ b ∷ more) less = absurd (omega arith)

@@ -55,6 +55,7 @@ pub mod BitsJudged
 pub mod BytesJudged
 pub mod BytesBack
 pub mod VerdictLemmas
+pub mod LongHeaders
 pub mod LimitLemmas
 pub mod OwnBands
 pub mod Marked
@@ -65,4 +66,17 @@ pub mod CodestreamVerdicts
 pub mod CodestreamsJudged
 pub mod Inputs
 pub mod WorkedFaults
+pub mod WorkedItems
 pub mod Stays
+pub mod BandSpans
+pub mod PadLemmas
+pub mod ReachLemmas
+pub mod BrokenLemmas
+pub mod ChoiceLemmas
+pub mod ItemsJudged
+pub mod FaultsStay
+pub mod HeadFronts
+pub mod CutHeads
+pub mod InputLimits
+pub mod LongPackets
+pub mod WorkedLengths

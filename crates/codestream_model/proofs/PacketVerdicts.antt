@@ -83,8 +83,8 @@ step_short h p bytes n = elim n.unfinished [
       by_header h p bytes (Done (length t.header) t.blocks) n.few_blocks (begun h p bytes t.header t.rest t.blocks t.begins) ∙ rw (short, lacks) refl
 ]
 
--- what stands where a packet should begin: a packet; too many code-blocks; a refused header; one of a packet that would be too
--- long; or the front of a packet
+-- What there is where a packet should begin: a packet; more code-blocks than a packet may have; a refused header; the header of a
+-- packet that would be too long; or a prefix of a packet.
 pub data Stands (h : Head) (p : Place) (bytes : List ℕ) : Type 0 where
   IsThere : (x : Content) → (packet : List ℕ) → (more : List ℕ) → SpellsPacket h p x packet → bytes ≡ packet ++ more → Stands h p bytes
   HasMany : 65536 < block_count (grids h p) → Stands h p bytes

@@ -22,7 +22,7 @@ use Rattle.codestream_model.proofs.Orders.{packet_order_is_computed}
 use Rattle.codestream_model.proofs.Inputs.{refuse_rest, all_read}
 
 -- an item that is refused in an input of one codestream
-refused_in : (input : List ℕ) (at : ℕ) (why : WalkRefusal) → 1 ≤ length input → length input ≤ 2 ^ 40 → RefusesCodestream input at why → Faults input at why
+pub refused_in : (input : List ℕ) (at : ℕ) (why : WalkRefusal) → 1 ≤ length input → length input ≤ 2 ^ 40 → RefusesCodestream input at why → Faults input at why
 refused_in input at why some few r =
     let P : List ℕ → Type 0 = λ l. RefusesCodestream l at why in
     let Q : ℕ → Type 0 = λ n. Faults input n why in
@@ -30,11 +30,11 @@ refused_in input at why some few r =
     subst Q e (record { codestreams = []; rest = input; whole = refl; each = tt; within = omega arith; follows = some; fault = inr (omega arith, refuse_rest 0 input at why (subst P (sym (all_read 0 input (omega arith))) r)) })
 
 -- and an input that ends inside it
-cut_in : (input : List ℕ) → 1 ≤ length input → length input ≤ 2 ^ 40 → NeedsCodestreamBytes input → Faults input (length input) Cut
+pub cut_in : (input : List ℕ) → 1 ≤ length input → length input ≤ 2 ^ 40 → NeedsCodestreamBytes input → Faults input (length input) Cut
 cut_in input some few n = record { codestreams = []; rest = input; whole = refl; each = tt; within = omega arith; follows = some; fault = inr (omega arith, (n, omega arith, omega arith)) }
 
 -- the values of the small header with this Psot
-abbrev small_head : ℕ → Head
+abbrev pub small_head : ℕ → Head
 small_head psot = record (plain_head 0 1 1 15 75 89) { psot = psot }
 
 -- the small header with Psot 14
@@ -62,7 +62,7 @@ unfolding placed sorted
 order_is psot = refl
 
 -- which is the one of the header
-one_order : (psot : ℕ) → IsPacketOrder (small_head psot) (precinct 0 ∷ [])
+pub one_order : (psot : ℕ) → IsPacketOrder (small_head psot) (precinct 0 ∷ [])
 one_order psot = let P : List Place → Type 0 = λ places. IsPacketOrder (small_head psot) places in subst P (order_is psot) (packet_order_is_computed (small_head psot) (one_step psot))
 
 -- behind the header the packet should stand
@@ -70,7 +70,7 @@ begun : (psot : ℕ) (head rest : List ℕ) → SpellsHead (small_head psot) hea
 begun psot head rest s = record { head = head; before = []; content = []; packets = []; is_head = s; order = one_order psot; are_packets = refl; place = omega arith; whole = refl }
 
 -- the packet that is empty
-abbrev nothing : Content
+abbrev pub nothing : Content
 nothing = record { blocks = []; bytes = [] }
 
 -- is one of the precinct
@@ -85,7 +85,7 @@ empty psot = record {
 }
 
 -- behind it EOC should stand
-packed : (psot : ℕ) (head rest : List ℕ) → SpellsHead (small_head psot) head → BeginsCodestream (small_head psot) [] (length head + 1) rest (head ++ 0 ∷ rest)
+pub packed : (psot : ℕ) (head rest : List ℕ) → SpellsHead (small_head psot) head → BeginsCodestream (small_head psot) [] (length head + 1) rest (head ++ 0 ∷ rest)
 packed psot head rest s = record { head = head; before = precinct 0 ∷ []; content = nothing ∷ []; packets = 0 ∷ []; is_head = s; order = one_order psot; are_packets = (0 ∷ [], [], empty psot, refl, refl); place = refl; whole = refl }
 
 -- FA is refused: four passes

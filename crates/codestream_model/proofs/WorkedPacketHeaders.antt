@@ -183,3 +183,8 @@ refine_2046 = refl
 pub refine_2047 : header_of one_grid (packing (true ∷ true ∷ true ∷ true ∷ false ∷ run_of true 8 false ++ number_bits 11 2 ++ number_bits 11 2047)) ≡ Bad RefineLong
 unfolding number_bits number_of packed_after carried_after sound_after bytes_of_bits halvings levels_from header_of read_label read_passes read_lblock read_number read_block known_label read_inclusion read_planes read_seats read_grids read_bits
 refine_2047 = refl
+
+-- nor of two code-blocks
+pub nothing_included_of_two : header_of two_columns (128 ∷ []) ≡ Done 1 []
+unfolding number_bits number_of carried_after sound_after bytes_of_bits halvings levels_from header_of read_label read_passes read_lblock read_number read_block known_label read_inclusion read_planes read_seats read_grids read_bits
+nothing_included_of_two = refl

@@ -33,7 +33,7 @@ spells_if_read b h fits e =
     subst P e (headers_are_judged b fits)
 
 -- and bytes that are refused are so
-refuses_if_read : (b : List ℕ) (r : Refused) → IsBytes b → head_of b ≡ Err r → RefusesHead b r.at r.why
+pub refuses_if_read : (b : List ℕ) (r : Refused) → IsBytes b → head_of b ≡ Err r → RefusesHead b r.at r.why
 refuses_if_read b r fits e =
     let P : Result Head Refused → Type 0 = λ x. MatchResult x (λ g. SpellsHead g (take g.length b)) (λ s. RefusesHead b s.at s.why) in
     subst P e (headers_are_judged b fits)

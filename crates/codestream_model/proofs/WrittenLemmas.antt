@@ -199,7 +199,7 @@ lblock_fits b l =
     )
 
 -- of all code-blocks
-lblocks_fit : (blocks xs : List Block) → AllByRecursion (λ (b : Block). filter (stands_at (seat_of b)) blocks ≡ b ∷ []) xs → AllByRecursion IsWithinLimits xs
+pub lblocks_fit : (blocks xs : List Block) → AllByRecursion (λ (b : Block). filter (stands_at (seat_of b)) blocks ≡ b ∷ []) xs → AllByRecursion IsWithinLimits xs
     → AllByRecursion (λ (b : Block). FitLengths (lblock_at blocks (seat_of b)) b) xs × AllByRecursion (λ (b : Block). lblock_at blocks (seat_of b) ≤ 24) xs
 lblocks_fit blocks [] a l = (tt, tt)
 lblocks_fit blocks (b ∷ xs) a l =
@@ -210,16 +210,16 @@ lblocks_fit blocks (b ∷ xs) a l =
     let Q : ℕ → Type 0 = λ k. k ≤ 24 in
     ((subst P (sym e) f.0, r.0), (subst Q (sym e) f.1, r.1))
 
-inclusion_all : (blocks : List Block) (gs : List Grid) → AllByRecursion (λ (g : Grid). LabelsInclusion blocks (least_inclusion blocks g.band) g) gs
+pub inclusion_all : (blocks : List Block) (gs : List Grid) → AllByRecursion (λ (g : Grid). LabelsInclusion blocks (least_inclusion blocks g.band) g) gs
 inclusion_all blocks [] = tt
 inclusion_all blocks (g ∷ gs) = (written_inclusion blocks g, inclusion_all blocks gs)
 
-planes_all : (blocks : List Block) (gs : List Grid) → StandAlone blocks → AllByRecursion IsWithinLimits blocks → AllByRecursion (λ (g : Grid). LabelsPlanes blocks (least_planes blocks g.band) g) gs
+pub planes_all : (blocks : List Block) (gs : List Grid) → StandAlone blocks → AllByRecursion IsWithinLimits blocks → AllByRecursion (λ (g : Grid). LabelsPlanes blocks (least_planes blocks g.band) g) gs
 planes_all blocks [] a l = tt
 planes_all blocks (g ∷ gs) a l = (written_planes blocks g a l, planes_all blocks gs a l)
 
 -- passes within the limits
-passes_within : (blocks : List Block) → AllByRecursion IsWithinLimits blocks → AllByRecursion (λ (b : Block). (1 ≤ b.passes) × (b.passes ≤ 6)) blocks
+pub passes_within : (blocks : List Block) → AllByRecursion IsWithinLimits blocks → AllByRecursion (λ (b : Block). (1 ≤ b.passes) × (b.passes ≤ 6)) blocks
 passes_within [] a = tt
 passes_within (b ∷ blocks) a = ((a.0.some_passes, omega (arith, a.0.few_passes)), passes_within blocks a.1)
 

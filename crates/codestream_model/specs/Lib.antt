@@ -23,3 +23,7 @@ pub mod Codestream
 pub mod PacketLaws
 pub mod MarkedLaws
 pub mod CodestreamLaws
+pub mod BitLaws
+pub mod ChoiceLaws
+pub mod BandLaws
+pub mod ItemLaws

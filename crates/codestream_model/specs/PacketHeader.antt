@@ -110,7 +110,8 @@ pub record LacksClosing (grids : List Grid) (bytes : List ℕ) : Type 0 where
   pub filled : carried bytes ≡ bits ++ pad
   pub needed : length (carried front) < length bits
 
--- the bytes are well stuffed and can be gone on with to a header, but aren't one yet, nor has a piece been refused
+-- The bytes are well stuffed and end before a header does, and no piece in them has been refused. It may be that no bytes
+-- after them make a header.
 pub record WantsMore (grids : List Grid) (bytes : List ℕ) : Type 0 where
   pub each : IsBytes bytes
   pub stuffed : IsStuffed bytes

@@ -4,7 +4,7 @@ use Rattle.codestream_model.specs.Values.{Head, Place, Grid, Block}
 use Rattle.codestream_model.specs.Bytes.{IsBytes}
 use Rattle.codestream_model.specs.StuffedBits.{carried, Packs, packing}
 use Rattle.codestream_model.specs.TagTrees.{exponent}
-use Rattle.codestream_model.specs.HeaderPieces.{HeaderRefusal}
+use Rattle.codestream_model.specs.HeaderPieces.{HeaderRefusal, TooLong}
 use Rattle.codestream_model.specs.PacketHeader.{HaveOwnBands, AreBlocks, HeaderBits, SpellsHeader, RefusesHeader, NeedsHeaderBytes, written_bits}
 use Rattle.codestream_model.specs.PacketHeaderReading.{Done, Need, Bad, header_of}
 use Rattle.codestream_model.specs.Packet.{Content, SpellsPacket}
@@ -79,6 +79,12 @@ RefusalsStay = (gs : List Grid) (bytes more : List ℕ) (why : HeaderRefusal) �
 abbrev pub HeaderFrontsNeedBytes : Type 0
 HeaderFrontsNeedBytes =
     (gs : List Grid) (blocks : List Block) (front rest : List ℕ) → HaveOwnBands gs → SpellsHeader gs blocks (front ++ rest) → 1 ≤ length rest → NeedsHeaderBytes gs front
+
+-- A header of more than 65,536 bytes, all else of which is as it should be, is refused for its length, whatever follows it.
+abbrev pub LongHeadersAreRefused : Type 0
+LongHeadersAreRefused =
+    (gs : List Grid) (blocks : List Block) (bits : List Bool) (bytes more : List ℕ) → HaveOwnBands gs → HeaderBits gs blocks bits → Packs bits bytes → 65536 < length bytes
+    → RefusesHeader gs (bytes ++ more) TooLong
 
 -- bytes begin with one header at most, and it says one thing; so no header is the front of another
 abbrev pub HeadersAreReadOneWay : Type 0

@@ -139,8 +139,8 @@ cod_precinct c r = if has_sizes c then record { x = slice_index c (10 + r) % 16;
 abbrev pub cod_precincts : List ℕ → List Pair
 cod_precincts c = map (cod_precinct c) (range_with_len 0 (cod_levels c + 1))
 
--- no SOP, RPCL or PCRL order, one layer, at most 15 levels, code-blocks of at most 1024 by 1024 and 4096 samples, the
--- HT style, vertically causal or not, and no precinct of one sample above resolution 0
+-- The tests of COD: no SOP, RPCL or PCRL order, one layer, at most 15 levels, code-blocks of at most 1024 by 1024 and 4096
+-- samples, the HT style, vertically causal or not, and no PPx or PPy of 0 above resolution 0.
 unfoldable pub cod_tests : List ℕ → List Test
 cod_tests c =
     refuses Style (nat_le 8 (scod c))
@@ -198,7 +198,8 @@ head_values main tile n = record {
   length = n;
 }
 
--- one more than the greatest PID of a component's precincts; the law `GreatPidsAreFound` says so
+-- One more than the greatest PID of a component's precincts, or c + 1 if the component has none. The law
+-- `GreatPidsAreFound` says that the threshold 2^20 is judged rightly in either case.
 abbrev pub pids_end : Head → ℕ → ℕ
 pids_end h c = (precincts_below h c (h.levels + 1) - 1) * length h.steps + c + 1
 
@@ -206,7 +207,8 @@ pids_end h c = (precincts_below h c (h.levels + 1) - 1) * length h.steps + c + 1
 abbrev pub has_great_pid : Head → Bool
 has_great_pid h = list_any (λ c. nat_lt (2 ^ 20) (pids_end h c)) (range_with_len 0 (length h.steps))
 
--- the one tile-part of the one tile, a known quantisation of as many bands as there are, and PIDs below 2^20
+-- The tests of SOT and of what needs the whole header: the one tile-part of the one tile, a known quantisation style whose
+-- length is the one that `quant_length` gives, and PIDs below 2^20.
 unfoldable pub tile_tests : List Segment → List ℕ → List Test
 tile_tests main c =
     refuses TileHeader (not (isot c == 0))

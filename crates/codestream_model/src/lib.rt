@@ -3,14 +3,26 @@
 //! `specs/` has the definitions and `proofs/` the laws about them. The functions here are laws: they compute nothing.
 #![tactic(auto)]
 
+mod choice_laws;
 mod codestream_laws;
+mod item_laws;
 mod laws;
 mod packet_laws;
 
+pub use choice_laws::{
+    band_spans_are_sampled, broken_at_is_first, bytes_of_bits_is_least, choices_can_say,
+    inclusion_is_least, lblock_is_least, packed_bits_are_read, packing_pads_with_zeros,
+    planes_are_least, unbroken_is_none,
+};
 pub use codestream_laws::{
     codestream_fronts_need_bytes, codestream_refusals_stay, codestreams_are_judged,
     codestreams_are_read_one_way, codestreams_have_one_verdict, fault_is_one, input_is_not_refused,
     input_is_one, inputs_are_judged,
+};
+pub use item_laws::{
+    cut_heads_are_short, eoc_has_one_verdict, eoc_is_judged, eoc_refusals_stay, faults_stay,
+    head_fronts_need_bytes, one_frame_more_is_a_fault, packet_refusals_stay, packets_are_judged,
+    packets_have_one_verdict, unfinished_headers_are_short,
 };
 pub use laws::{
     each_component_has_precincts, great_pids_are_found, header_is_not_refused, header_is_one,

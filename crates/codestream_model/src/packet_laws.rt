@@ -1,9 +1,9 @@
 //! The laws of the definitions, each on a function that does nothing.
 
 ghost use Rattle.codestream_model.specs.MarkedLaws.{MarkedHeadersAreRead, MarkedHeadersAreSound, MarkedRefusalsAreRead, MarkedRefusalsAreSound, MarkedNeedsAreRead, MarkedNeedsAreSound, MarkedRefusalsStay, MarkedHeadersAreJudged, MarkedHeadersHaveOneVerdict, MarkedHeadersAreReadOneWay, MarkedFrontsNeedBytes};
-ghost use Rattle.codestream_model.specs.PacketLaws.{PackingPacks, PackedBitsAreCarried, PackedBitsAgree, ExponentIsLeast, EmptyPacketIsRead, HeadersAreRead, HeadersAreSound, RefusalsAreRead, RefusalsAreSound, NeedsAreRead, NeedsAreSound, PacketHeadersAreJudged, PacketHeadersHaveOneVerdict, RefusalsStay, HeaderFrontsNeedBytes, HeadersAreReadOneWay, WrittenIsHeader, PacketsAreReadOneWay, PacketRunsAreReadOneWay};
+ghost use Rattle.codestream_model.specs.PacketLaws.{PackingPacks, PackedBitsAreCarried, PackedBitsAgree, ExponentIsLeast, EmptyPacketIsRead, HeadersAreRead, HeadersAreSound, RefusalsAreRead, RefusalsAreSound, NeedsAreRead, NeedsAreSound, PacketHeadersAreJudged, PacketHeadersHaveOneVerdict, RefusalsStay, HeaderFrontsNeedBytes, LongHeadersAreRefused, HeadersAreReadOneWay, WrittenIsHeader, PacketsAreReadOneWay, PacketRunsAreReadOneWay};
 
-/// Bits that are packed by computing are packed, with pad bits that are 0.
+/// `packing` produces bytes that `Packs` accepts; `packing_pads_with_zeros` speaks of the pad bits.
 pub fn bits_that_are_packed_by_computing_are_packed()
     ensures { PackingPacks }
 {}
@@ -76,6 +76,11 @@ pub fn refusals_stay()
 /// A header without its last bytes is unfinished.
 pub fn header_fronts_need_bytes()
     ensures { HeaderFrontsNeedBytes }
+{}
+
+/// A header of more than 65,536 bytes is refused for its length.
+pub fn long_headers_are_refused()
+    ensures { LongHeadersAreRefused }
 {}
 
 /// Bytes begin with one header at most, and it says one thing.

@@ -3,8 +3,8 @@ use Rattle.std.proofs.Common.{◌≡◌, ◌<◌, ◌≤◌, ◌+◌, inl, inr, 
 use Rattle.std.proofs.lemmas.List.{take-append-drop, length-take, length-append}
 use Rattle.codestream_model.specs.Values.{Head, Place, Grid, Block}
 use Rattle.codestream_model.specs.Precincts.{grids}
-use Rattle.codestream_model.specs.MarkedHeader.{end_marker, IsPartOfEph, SpellsMarkedHeader}
-use Rattle.codestream_model.specs.Packet.{NeedsPacketHeaderBytes, HasFewBlocks, segment_bytes, BeginsPacket, IsPacketTooLong}
+use Rattle.codestream_model.specs.MarkedHeader.{end_marker, SpellsMarkedHeader}
+use Rattle.codestream_model.specs.Packet.{HasFewBlocks, segment_bytes, BeginsPacket, IsPacketTooLong}
 use Rattle.codestream_model.specs.Codestream.{IsOther}
 use Rattle.packet_header.specs.Answers.{why_of}
 use Rattle.packet_header.specs.declared.refusal.HeaderWhy.{HeaderWhy}
@@ -29,11 +29,6 @@ used_by used n e = cc
 pub within_bytes : (used : ℕ) (bytes : List ℕ) → used ≡ length (take used bytes) → used ≤ length bytes
 within_bytes used bytes e = omega (arith, length-take used bytes)
 
--- a part of EPH has one byte at most
-part_size : (rest : List ℕ) → IsPartOfEph rest → length rest ≤ 1
-part_size rest (inl e) = omega (arith, ap length e)
-part_size rest (inr e) = omega (arith, ap length e)
-
 -- EPH has two bytes
 marker_size : (eph : Bool) → length (end_marker eph) ≤ 2
 marker_size true = omega arith
@@ -55,8 +50,3 @@ pub is_other : (bytes : List ℕ) → 2 ≤ length bytes → (slice_index bytes 
 is_other [] p d = absurd (omega arith)
 is_other (a ∷ []) p d = absurd (omega arith)
 is_other (a ∷ b ∷ more) p d = (a, b, more, refl, λ e. d e.0 e.1)
-
--- bytes that end inside a packet header or its EPH are few
-pub needs_short : (h : Head) (p : Place) (bytes : List ℕ) → NeedsPacketHeaderBytes h p bytes → length bytes < 65538
-needs_short h p bytes (inl n) = omega (arith, n.short)
-needs_short h p bytes (inr l) = omega (arith, l.begins.is_header.short, ap length l.begins.whole, length-append l.begins.header l.rest, part_size l.rest l.part)

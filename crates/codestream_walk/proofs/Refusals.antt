@@ -8,37 +8,14 @@ use Rattle.codestream_model.specs.Precincts.{grids}
 use Rattle.codestream_model.specs.Packet.{BeginsPacket, LacksSegments}
 use Rattle.codestream_model.specs.Codestream.{WalkRefusal, HeadRefused, Cut, TooManyBlocks, HeaderRefused, PacketTooLong, Psot, NoEoc, InputTooLong, TooManyFrames, joined, BeginsCodestream, RefusesCodestream, NeedsCodestreamBytes, readable, RefusesRest, RefusesPacket, RefusesEoc}
 use Rattle.codestream_model.proofs.Standing.{refusal_stands}
-use Rattle.codestream_model.proofs.Marked.{marked_refusal_stays}
+use Rattle.codestream_model.proofs.ItemsJudged.{packet_refusal_stays, eoc_refusal_stays}
 use Rattle.codestream_model.proofs.Inputs.{refuse_rest}
 use Rattle.codestream_walk.specs.Items.{RefusesHeadItem}
 use Rattle.codestream_walk.specs.Walking.{Stage, AtStart, AtNext, InBody, AtEnd, Walking, WantsIn, RefusesIn}
 use Rattle.codestream_walk.specs.Inputs.{IsGiven, WereGiven, RefusalIsFault, EndIsInput, EndIsCut, LimitIsFault, LimitIsFull}
 use Rattle.codestream_walk.proofs.Inputs.{begun_more, begun_size, begun_long, body_long}
 
--- refusals of items stay when bytes are added
-pub packet_refusal_stays : (h : Head) (p : Place) (bytes more : List ℕ) (why : WalkRefusal) → RefusesPacket h p bytes why → RefusesPacket h p (bytes ++ more) why
-packet_refusal_stays h p bytes more TooManyBlocks r = r
-packet_refusal_stays h p bytes more (HeaderRefused why) r = (r.0, marked_refusal_stays (grids h p) h.eph bytes more why r.1)
-packet_refusal_stays h p bytes more PacketTooLong r =
-    record { blocks = r.blocks; header = r.header; rest = r.rest ++ more; begins = record { few_blocks = r.begins.few_blocks; is_header = r.begins.is_header; whole = ap (λ (l : List ℕ). l ++ more) r.begins.whole ∙ append_assoc r.header r.rest more }; long = r.long }
-packet_refusal_stays h p bytes more (HeadRefused why) r = absurd r
-packet_refusal_stays h p bytes more Cut r = absurd r
-packet_refusal_stays h p bytes more Psot r = absurd r
-packet_refusal_stays h p bytes more NoEoc r = absurd r
-packet_refusal_stays h p bytes more InputTooLong r = absurd r
-packet_refusal_stays h p bytes more TooManyFrames r = absurd r
-
-pub eoc_refusal_stays : (h : Head) (at : ℕ) (bytes more : List ℕ) (why : WalkRefusal) → RefusesEoc h at bytes why → RefusesEoc h at (bytes ++ more) why
-eoc_refusal_stays h at bytes more Psot r = r
-eoc_refusal_stays h at bytes more NoEoc (psot, (a, b, rest, e, differ)) = (psot, (a, b, rest ++ more, ap (λ (l : List ℕ). l ++ more) e, differ))
-eoc_refusal_stays h at bytes more TooManyBlocks r = absurd r
-eoc_refusal_stays h at bytes more (HeaderRefused why) r = absurd r
-eoc_refusal_stays h at bytes more PacketTooLong r = absurd r
-eoc_refusal_stays h at bytes more (HeadRefused why) r = absurd r
-eoc_refusal_stays h at bytes more Cut r = absurd r
-eoc_refusal_stays h at bytes more InputTooLong r = absurd r
-eoc_refusal_stays h at bytes more TooManyFrames r = absurd r
-
+-- a refusal of a main header stays when bytes are added
 pub head_refusal_stays : (bytes more : List ℕ) (at : ℕ) (why : WalkRefusal) → RefusesHeadItem bytes at why → RefusesHeadItem (bytes ++ more) at why
 head_refusal_stays bytes more at (HeadRefused why) (r, other) = (refusal_stands bytes more at why other r, other)
 head_refusal_stays bytes more at TooManyBlocks r = absurd r

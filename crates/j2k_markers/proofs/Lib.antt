@@ -14,4 +14,3 @@ pub mod Starting
 pub mod Judgements
 pub mod Lengths
 pub mod Wholes
-pub mod Wanting

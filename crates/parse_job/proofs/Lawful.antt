@@ -8,19 +8,19 @@ use Rattle.scl_run.specs.declared.ending.Refusal.{Refusal}
 use Rattle.scl_run.specs.InputClass.{IsLawful}
 use Rattle.scl_run.proofs.InputClassLaws.{same_refusal}
 use Rattle.parse_job.specs.Inputs.{reason_for, AreWholeCodestreams, RefusesCodestreams, LeavesOpen, codestreams_input}
-use Rattle.parse_job.proofs.Faulty.{fault_stays}
+use Rattle.codestream_model.proofs.FaultsStay.{faults_stay}
 
 -- a fault is the input's end or stays
 stays : (read rest : List ℕ) (r : Refusal) (why : WalkRefusal) → r.reason ≡ reason_for why → (r.reason ≡ reason.Cut → rest ≡ []) → Faults read r.at why → Faults (read ++ rest) r.at why
 stays read rest r Cut is end f = let P : List ℕ → Type 0 = λ l. Faults l r.at Cut in subst P (sym (ap (λ (l : List ℕ). read ++ l) (end is) ∙ append-nil read)) f
-stays read rest r (HeadRefused why) is end f = fault_stays read rest r.at (HeadRefused why) (λ e. absurd (cc)) f
-stays read rest r TooManyBlocks is end f = fault_stays read rest r.at TooManyBlocks (λ e. absurd (cc)) f
-stays read rest r (HeaderRefused why) is end f = fault_stays read rest r.at (HeaderRefused why) (λ e. absurd (cc)) f
-stays read rest r PacketTooLong is end f = fault_stays read rest r.at PacketTooLong (λ e. absurd (cc)) f
-stays read rest r Psot is end f = fault_stays read rest r.at Psot (λ e. absurd (cc)) f
-stays read rest r NoEoc is end f = fault_stays read rest r.at NoEoc (λ e. absurd (cc)) f
-stays read rest r InputTooLong is end f = fault_stays read rest r.at InputTooLong (λ e. absurd (cc)) f
-stays read rest r TooManyFrames is end f = fault_stays read rest r.at TooManyFrames (λ e. absurd (cc)) f
+stays read rest r (HeadRefused why) is end f = faults_stay read rest r.at (HeadRefused why) (λ e. absurd (cc)) f
+stays read rest r TooManyBlocks is end f = faults_stay read rest r.at TooManyBlocks (λ e. absurd (cc)) f
+stays read rest r (HeaderRefused why) is end f = faults_stay read rest r.at (HeaderRefused why) (λ e. absurd (cc)) f
+stays read rest r PacketTooLong is end f = faults_stay read rest r.at PacketTooLong (λ e. absurd (cc)) f
+stays read rest r Psot is end f = faults_stay read rest r.at Psot (λ e. absurd (cc)) f
+stays read rest r NoEoc is end f = faults_stay read rest r.at NoEoc (λ e. absurd (cc)) f
+stays read rest r InputTooLong is end f = faults_stay read rest r.at InputTooLong (λ e. absurd (cc)) f
+stays read rest r TooManyFrames is end f = faults_stay read rest r.at TooManyFrames (λ e. absurd (cc)) f
 
 one_refusal : (input : List ℕ) (r q : Refusal) → RefusesCodestreams input r → RefusesCodestreams input q → r ≡ q
 one_refusal input r q (why, is, f) (other, also, g) =

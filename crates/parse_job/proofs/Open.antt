@@ -15,7 +15,8 @@ use Rattle.codestream_walk.specs.Reading.{IsBetween, IsFull}
 use Rattle.codestream_walk.proofs.Inputs.{begun_more, begun_size, begun_long}
 use Rattle.codestream_walk.proofs.Refusals.{refuses_by_head, refuses_by_packet, refuses_by_eoc}
 use Rattle.parse_job.specs.Inputs.{LeavesOpen}
-use Rattle.parse_job.proofs.Faulty.{Behind, cut_at, refused_at, long_at, many_at}
+use Rattle.codestream_model.proofs.FaultsStay.{one_frame_more}
+use Rattle.parse_job.proofs.Faulty.{Behind, cut_at, refused_at, long_at}
 use Rattle.parse_job.proofs.Telling.{AreWhole, Tells, opened, start_by, open_by}
 
 -- codestreams that say something are codestreams
@@ -127,7 +128,7 @@ refusal_is_fault stamp step consumed w xs at why t few (inl r) =
     let R : ℕ → Type 0 = λ n. Q n why in
     let S : WalkRefusal → Type 0 = λ y. Q (length (joined t.codestreams)) y in
     let place : length (joined t.codestreams) ≡ at = omega (arith, r.place, size, ap length none.0) in
-    subst P (sym (all_read stamp step consumed w xs t)) (subst R place (subst S (sym r.is) (many_at t.codestreams (t.front ++ w.hand) (each_of t.said t.codestreams t.are) (omega (arith, r.full, t.count)) (omega (arith, size, few)) (omega (arith, r.some, length-append t.front w.hand)))))
+    subst P (sym (all_read stamp step consumed w xs t)) (subst R place (subst S (sym r.is) (one_frame_more t.codestreams (t.front ++ w.hand) (each_of t.said t.codestreams t.are) (omega (arith, r.full, t.count)) (omega (arith, size, few)) (omega (arith, r.some, length-append t.front w.hand)))))
 refusal_is_fault stamp step consumed w xs at why t few (inr (inl r)) =
     let size = sizes stamp step consumed w xs t in
     let none = start_by (stamp_of stamp step (length t.codestreams)) w.stage t.front t.last r.start t.given in
@@ -171,4 +172,4 @@ limit_is_full stamp step consumed more w xs t full n some (start, all) =
     let P : List ℕ → Type 0 = λ l. Faults l input_limit TooManyFrames in
     let Q : ℕ → Type 0 = λ k. Faults (joined t.codestreams ++ ((t.front ++ w.hand) ++ more)) k TooManyFrames in
     let place : length (joined t.codestreams) ≡ input_limit = omega (arith, size, full, ap length none.0, ap length empty) in
-    subst P (sym (all_of stamp step consumed w xs t more)) (subst Q place (many_at t.codestreams ((t.front ++ w.hand) ++ more) (each_of t.said t.codestreams t.are) (omega (arith, all, t.count)) (omega (arith, place)) (omega (arith, some, length-append (t.front ++ w.hand) more))))
+    subst P (sym (all_of stamp step consumed w xs t more)) (subst Q place (one_frame_more t.codestreams ((t.front ++ w.hand) ++ more) (each_of t.said t.codestreams t.are) (omega (arith, all, t.count)) (omega (arith, place)) (omega (arith, some, length-append (t.front ++ w.hand) more))))

@@ -5,9 +5,9 @@ use Rattle.std.proofs.lemmas.List.{append-nil, take_min}
 use Rattle.std.proofs.lemmas.Bool.{eq-eqb}
 use Rattle.std.proofs.lemmas.Bool.Decides.{nat_tests}
 use Rattle.std.proofs.lemmas.List.Concat.{flat_map-append}
-use Rattle.wire_model.specs.Link.{LinkAnswer, Sent, Busy, Broken}
+use Rattle.wire_model.specs.LinkAnswers.{LinkAnswer, Sent, NotReady, Failed}
 use Rattle.relay_model.specs.Queue.{Tale, poll}
-use Rattle.relay_model.specs.Relays.{busy_count, broken_count}
+use Rattle.relay_model.specs.Relays.{not_ready_count, failure_count}
 use Rattle.scl_outside.specs.Meaning.{Meaning, Parcel, Reply}
 use Rattle.scl_outside.specs.Events.{Event, WireEvent, Offered, Received, Bound, Joined, OnWire, answers_by, parcels_by, peer_fails}
 use Rattle.scl_outside.specs.Steps.{Step, Counts}
@@ -29,9 +29,9 @@ pub record IsPolled (peer : ℕ) (before after : List (List ℕ)) (count failed 
   pub offered : (more : List LinkAnswer) → offers peer before (given ++ more) ≡ wire ++ offers peer after more
   pub number : count ≡ length gone
   pub size : count + failed + length after ≡ length before
-  pub ready : busy_count given ≡ 0
+  pub ready : not_ready_count given ≡ 0
   pub taken : length given ≡ count + failed
-  pub broken : failed ≡ broken_count given
+  pub failures : failed ≡ failure_count given
   pub replies : answers wire ≡ replies_of peer given
   pub parcels : parcels wire ≡ parcels_of peer gone
   pub peers : m.wire.peers ≡ s.wire.peers
@@ -48,7 +48,7 @@ polled_none peer q s = record {
   size = omega arith;
   ready = refl;
   taken = refl;
-  broken = refl;
+  failures = refl;
   replies = refl;
   parcels = refl;
   peers = refl;
@@ -66,17 +66,17 @@ pub parcels_of-append : (peer : ℕ) (xs ys : List (List ℕ)) → parcels_of pe
 parcels_of-append peer [] ys = refl
 parcels_of-append peer (x ∷ xs) ys = ap (λ (l : List Parcel). parcel peer x ∷ l) (parcels_of-append peer xs ys)
 
-busy-append : (xs ys : List LinkAnswer) → busy_count (xs ++ ys) ≡ busy_count xs + busy_count ys
-busy-append [] ys = omega arith
-busy-append (Busy ∷ xs) ys = omega (arith, busy-append xs ys)
-busy-append (Sent ∷ xs) ys = busy-append xs ys
-busy-append (Broken ∷ xs) ys = busy-append xs ys
+not_ready-append : (xs ys : List LinkAnswer) → not_ready_count (xs ++ ys) ≡ not_ready_count xs + not_ready_count ys
+not_ready-append [] ys = omega arith
+not_ready-append (NotReady ∷ xs) ys = omega (arith, not_ready-append xs ys)
+not_ready-append (Sent ∷ xs) ys = not_ready-append xs ys
+not_ready-append (Failed ∷ xs) ys = not_ready-append xs ys
 
-broken-append : (xs ys : List LinkAnswer) → broken_count (xs ++ ys) ≡ broken_count xs + broken_count ys
-broken-append [] ys = omega arith
-broken-append (Busy ∷ xs) ys = broken-append xs ys
-broken-append (Sent ∷ xs) ys = broken-append xs ys
-broken-append (Broken ∷ xs) ys = omega (arith, broken-append xs ys)
+failure-append : (xs ys : List LinkAnswer) → failure_count (xs ++ ys) ≡ failure_count xs + failure_count ys
+failure-append [] ys = omega arith
+failure-append (NotReady ∷ xs) ys = failure-append xs ys
+failure-append (Sent ∷ xs) ys = failure-append xs ys
+failure-append (Failed ∷ xs) ys = omega (arith, failure-append xs ys)
 
 is_same : (j : ℕ) → (j == j) ≡ true
 is_same j = eq-eqb j j refl
@@ -93,31 +93,31 @@ counts_on false true x y z w p q r = (omega arith, omega arith)
 counts_on false false x y z w p q r = omega arith
 
 -- one more answer to this peer, or to another
-one_broken : (j : ℕ) (w : WireEvent) (ws : List WireEvent) → nat_lt 0 (broken_count (answers_to j (answers (w ∷ ws)))) ≡ (peer_fails j w || nat_lt 0 (broken_count (answers_to j (answers ws))))
-one_broken j (Offered p Sent) ws = elim (p.peer == j) as (λ b. nat_lt 0 (broken_count (if b then Sent ∷ answers_to j (answers ws) else answers_to j (answers ws))) ≡ nat_lt 0 (broken_count (answers_to j (answers ws)))) [ true ↦ refl | false ↦ refl ]
-one_broken j (Offered p Busy) ws = elim (p.peer == j) as (λ b. nat_lt 0 (broken_count (if b then Busy ∷ answers_to j (answers ws) else answers_to j (answers ws))) ≡ nat_lt 0 (broken_count (answers_to j (answers ws)))) [ true ↦ refl | false ↦ refl ]
-one_broken j (Offered p Broken) ws = elim (p.peer == j) as (λ b. nat_lt 0 (broken_count (if b then Broken ∷ answers_to j (answers ws) else answers_to j (answers ws))) ≡ (b || nat_lt 0 (broken_count (answers_to j (answers ws))))) [ true ↦ some (broken_count (answers_to j (answers ws))) | false ↦ refl ] where
+one_failure : (j : ℕ) (w : WireEvent) (ws : List WireEvent) → nat_lt 0 (failure_count (answers_to j (answers (w ∷ ws)))) ≡ (peer_fails j w || nat_lt 0 (failure_count (answers_to j (answers ws))))
+one_failure j (Offered p Sent) ws = elim (p.peer == j) as (λ b. nat_lt 0 (failure_count (if b then Sent ∷ answers_to j (answers ws) else answers_to j (answers ws))) ≡ nat_lt 0 (failure_count (answers_to j (answers ws)))) [ true ↦ refl | false ↦ refl ]
+one_failure j (Offered p NotReady) ws = elim (p.peer == j) as (λ b. nat_lt 0 (failure_count (if b then NotReady ∷ answers_to j (answers ws) else answers_to j (answers ws))) ≡ nat_lt 0 (failure_count (answers_to j (answers ws)))) [ true ↦ refl | false ↦ refl ]
+one_failure j (Offered p Failed) ws = elim (p.peer == j) as (λ b. nat_lt 0 (failure_count (if b then Failed ∷ answers_to j (answers ws) else answers_to j (answers ws))) ≡ (b || nat_lt 0 (failure_count (answers_to j (answers ws))))) [ true ↦ some (failure_count (answers_to j (answers ws))) | false ↦ refl ] where
   some : (n : ℕ) → nat_lt 0 (n + 1) ≡ true
   some n = grind (arith, nat_tests)
-one_broken j (Received r) ws = refl
-one_broken j (Bound text done) ws = refl
-one_broken j (Joined text done) ws = refl
+one_failure j (Received r) ws = refl
+one_failure j (Bound text done) ws = refl
+one_failure j (Joined text done) ws = refl
 
 -- over calls of the wire the count of a peer's faults rises where its link failed
-pub broken_counts : (j : ℕ) (s t : Meaning) (ws : List WireEvent) → Trace s (on_wire ws) t → Counts (nat_lt 0 (broken_count (answers_to j (answers ws)))) (s.wire.peer_faults j) (t.wire.peer_faults j)
-broken_counts j s t [] e = let h : t.wire.peer_faults j ≡ s.wire.peer_faults j = ap (λ (m : Meaning). m.wire.peer_faults j) e in omega arith
-broken_counts j s t (w ∷ ws) (m, step, rest) =
+pub failure_counts : (j : ℕ) (s t : Meaning) (ws : List WireEvent) → Trace s (on_wire ws) t → Counts (nat_lt 0 (failure_count (answers_to j (answers ws)))) (s.wire.peer_faults j) (t.wire.peer_faults j)
+failure_counts j s t [] e = let h : t.wire.peer_faults j ≡ s.wire.peer_faults j = ap (λ (m : Meaning). m.wire.peer_faults j) e in omega arith
+failure_counts j s t (w ∷ ws) (m, step, rest) =
     let (n, one, keeps) = step.wire in
     let P : Bool → Type 0 = λ b. Counts b (s.wire.peer_faults j) (t.wire.peer_faults j) in
-    subst P (sym (one_broken j w ws)) (counts_on (peer_fails j w) (nat_lt 0 (broken_count (answers_to j (answers ws)))) (s.wire.peer_faults j) (n.peer_faults j) (m.wire.peer_faults j) (t.wire.peer_faults j) (one.peer_faults j) (keeps.peer_faults j) (broken_counts j m t ws rest))
+    subst P (sym (one_failure j w ws)) (counts_on (peer_fails j w) (nat_lt 0 (failure_count (answers_to j (answers ws)))) (s.wire.peer_faults j) (n.peer_faults j) (m.wire.peer_faults j) (t.wire.peer_faults j) (one.peer_faults j) (keeps.peer_faults j) (failure_counts j m t ws rest))
 
 -- the same of the calls of a poll
-rises : (peer : ℕ) (given : List LinkAnswer) (wire : List WireEvent) (s t : Meaning) (failed : ℕ) → failed ≡ broken_count given → Trace s (on_wire wire) t → answers wire ≡ replies_of peer given
+rises : (peer : ℕ) (given : List LinkAnswer) (wire : List WireEvent) (s t : Meaning) (failed : ℕ) → failed ≡ failure_count given → Trace s (on_wire wire) t → answers wire ≡ replies_of peer given
     → Counts (nat_lt 0 failed) (s.wire.peer_faults peer) (t.wire.peer_faults peer)
 rises peer given wire s t failed is trace replies =
-    let e : broken_count (answers_to peer (answers wire)) ≡ failed = ap (λ (l : List Reply). broken_count (answers_to peer l)) replies ∙ ap broken_count (answers_own peer given) ∙ sym is in
+    let e : failure_count (answers_to peer (answers wire)) ≡ failed = ap (λ (l : List Reply). failure_count (answers_to peer l)) replies ∙ ap failure_count (answers_own peer given) ∙ sym is in
     let P : ℕ → Type 0 = λ n. Counts (nat_lt 0 n) (s.wire.peer_faults peer) (t.wire.peer_faults peer) in
-    subst P e (broken_counts peer s t wire trace)
+    subst P e (failure_counts peer s t wire trace)
 
 -- an offer changes no number of peers
 pub offer_peers : (s t : Meaning) (p : Parcel) (a : LinkAnswer) → Step s (OnWire (Offered p a)) t → t.wire.peers ≡ s.wire.peers
@@ -150,60 +150,60 @@ polled_sent peer before q d count failed s m n p step = record {
       ∙ sym (append_assoc p.wire (Offered (parcel peer d) Sent ∷ []) (offers peer q more)));
   number = rw (length-append p.gone (d ∷ [])) (let e = p.number in omega arith);
   size = (let e = p.size in omega arith);
-  ready = rw (busy-append p.given (Sent ∷ [])) (let e = p.ready in omega arith);
+  ready = rw (not_ready-append p.given (Sent ∷ [])) (let e = p.ready in omega arith);
   taken = rw (length-append p.given (Sent ∷ [])) (let e = p.taken in omega arith);
-  broken = rw (broken-append p.given (Sent ∷ [])) (let e = p.broken in omega arith);
+  failures = rw (failure-append p.given (Sent ∷ [])) (let e = p.failures in omega arith);
   replies = answers_more peer p.wire p.given d Sent p.replies;
   parcels = more_parcels peer p.wire _ p.gone (d ∷ []) p.parcels refl;
   peers = offer_peers m n _ _ step ∙ p.peers;
 }
 
-pub polled_failed : (peer : ℕ) (before q : List (List ℕ)) (d : List ℕ) (count failed : ℕ) (s m n : Meaning) → IsPolled peer before (d ∷ q) count failed s m → Step m (OnWire (Offered (parcel peer d) Broken)) n → IsPolled peer before q count (failed + 1) s n
+pub polled_failed : (peer : ℕ) (before q : List (List ℕ)) (d : List ℕ) (count failed : ℕ) (s m n : Meaning) → IsPolled peer before (d ∷ q) count failed s m → Step m (OnWire (Offered (parcel peer d) Failed)) n → IsPolled peer before q count (failed + 1) s n
 unfolding poll
 polled_failed peer before q d count failed s m n p step = record {
-  given = p.given ++ Broken ∷ [];
-  wire = p.wire ++ Offered (parcel peer d) Broken ∷ [];
+  given = p.given ++ Failed ∷ [];
+  wire = p.wire ++ Offered (parcel peer d) Failed ∷ [];
   gone = p.gone;
   trace = trace_more s m n p.wire _ p.trace step;
   told = λ x more. (
-      ap (λ (l : List LinkAnswer). poll x before l) (append_assoc p.given (Broken ∷ []) more)
-      ∙ p.told x (Broken ∷ more)
+      ap (λ (l : List LinkAnswer). poll x before l) (append_assoc p.given (Failed ∷ []) more)
+      ∙ p.told x (Failed ∷ more)
       ∙ ap (λ (k : ℕ). poll (record x { sent = x.sent ++ p.gone; failed = k }) q more) (let e : x.failed + failed + 1 ≡ x.failed + (failed + 1) = omega arith in e));
   offered = λ more. (
-      ap (λ (l : List LinkAnswer). offers peer before l) (append_assoc p.given (Broken ∷ []) more)
-      ∙ p.offered (Broken ∷ more)
-      ∙ sym (append_assoc p.wire (Offered (parcel peer d) Broken ∷ []) (offers peer q more)));
+      ap (λ (l : List LinkAnswer). offers peer before l) (append_assoc p.given (Failed ∷ []) more)
+      ∙ p.offered (Failed ∷ more)
+      ∙ sym (append_assoc p.wire (Offered (parcel peer d) Failed ∷ []) (offers peer q more)));
   number = p.number;
   size = (let e = p.size in omega arith);
-  ready = rw (busy-append p.given (Broken ∷ [])) (let e = p.ready in omega arith);
-  taken = rw (length-append p.given (Broken ∷ [])) (let e = p.taken in omega arith);
-  broken = rw (broken-append p.given (Broken ∷ [])) (let e = p.broken in omega arith);
-  replies = answers_more peer p.wire p.given d Broken p.replies;
+  ready = rw (not_ready-append p.given (Failed ∷ [])) (let e = p.ready in omega arith);
+  taken = rw (length-append p.given (Failed ∷ [])) (let e = p.taken in omega arith);
+  failures = rw (failure-append p.given (Failed ∷ [])) (let e = p.failures in omega arith);
+  replies = answers_more peer p.wire p.given d Failed p.replies;
   parcels = rw (← append-nil p.gone) (more_parcels peer p.wire _ p.gone [] p.parcels refl);
   peers = offer_peers m n _ _ step ∙ p.peers;
 }
 
 -- the link wasn't ready
-pub polled_busy : (peer : ℕ) (before q : List (List ℕ)) (d : List ℕ) (count failed : ℕ) (s m n : Meaning) (r : Flushed) → r ≡ record { pending = true; sent = count; failed = failed } → IsPolled peer before (d ∷ q) count failed s m → Step m (OnWire (Offered (parcel peer d) Busy)) n → Polls peer before r (d ∷ q) s n
+pub polled_not_ready : (peer : ℕ) (before q : List (List ℕ)) (d : List ℕ) (count failed : ℕ) (s m n : Meaning) (r : Flushed) → r ≡ record { pending = true; sent = count; failed = failed } → IsPolled peer before (d ∷ q) count failed s m → Step m (OnWire (Offered (parcel peer d) NotReady)) n → Polls peer before r (d ∷ q) s n
 unfolding poll
-polled_busy peer before q d count failed s m n r is p step = let P : Flushed → Type 0 = λ x. Polls peer before x (d ∷ q) s n in subst P (sym is) (record {
-  given = p.given ++ Busy ∷ [];
-  wire = p.wire ++ Offered (parcel peer d) Busy ∷ [];
+polled_not_ready peer before q d count failed s m n r is p step = let P : Flushed → Type 0 = λ x. Polls peer before x (d ∷ q) s n in subst P (sym is) (record {
+  given = p.given ++ NotReady ∷ [];
+  wire = p.wire ++ Offered (parcel peer d) NotReady ∷ [];
   offered = sym (
-      ap (λ (l : List LinkAnswer). offers peer before l) (sym (append-nil (p.given ++ Busy ∷ [])) ∙ append_assoc p.given (Busy ∷ []) [])
-      ∙ p.offered (Busy ∷ []));
+      ap (λ (l : List LinkAnswer). offers peer before l) (sym (append-nil (p.given ++ NotReady ∷ [])) ∙ append_assoc p.given (NotReady ∷ []) [])
+      ∙ p.offered (NotReady ∷ []));
   trace = trace_more s m n p.wire _ p.trace step;
   sent = p.gone;
   told = λ x more. (
-      ap (λ (l : List LinkAnswer). poll x before l) (append_assoc p.given (Busy ∷ []) more)
-      ∙ p.told x (Busy ∷ more));
+      ap (λ (l : List LinkAnswer). poll x before l) (append_assoc p.given (NotReady ∷ []) more)
+      ∙ p.told x (NotReady ∷ more));
   settled = inr (p.given, refl);
   number = p.number;
-  failed = rw (broken-append p.given (Busy ∷ [])) (let e = p.broken in omega arith);
-  faults = rises peer (p.given ++ Busy ∷ []) (p.wire ++ Offered (parcel peer d) Busy ∷ []) s n failed (rw (broken-append p.given (Busy ∷ [])) (let e = p.broken in omega arith)) (trace_more s m n p.wire _ p.trace step) (answers_more peer p.wire p.given d Busy p.replies);
-  taken = rw (length-append p.given (Busy ∷ []), busy-append p.given (Busy ∷ [])) (let e = p.taken in let z = p.ready in omega arith);
-  pending = (λ e. rw (busy-append p.given (Busy ∷ [])) (let e = p.ready in omega arith), λ e. refl);
-  replies = answers_more peer p.wire p.given d Busy p.replies;
+  failed = rw (failure-append p.given (NotReady ∷ [])) (let e = p.failures in omega arith);
+  faults = rises peer (p.given ++ NotReady ∷ []) (p.wire ++ Offered (parcel peer d) NotReady ∷ []) s n failed (rw (failure-append p.given (NotReady ∷ [])) (let e = p.failures in omega arith)) (trace_more s m n p.wire _ p.trace step) (answers_more peer p.wire p.given d NotReady p.replies);
+  taken = rw (length-append p.given (NotReady ∷ []), not_ready-append p.given (NotReady ∷ [])) (let e = p.taken in let z = p.ready in omega arith);
+  pending = (λ e. rw (not_ready-append p.given (NotReady ∷ [])) (let e = p.ready in omega arith), λ e. refl);
+  replies = answers_more peer p.wire p.given d NotReady p.replies;
   parcels = rw (← append-nil p.gone) (more_parcels peer p.wire _ p.gone [] p.parcels refl);
   peers = offer_peers m n _ _ step ∙ p.peers;
 })
@@ -220,8 +220,8 @@ none_queued peer before count failed s m p = record {
   told = λ x more. p.told x more;
   settled = inl refl;
   number = p.number;
-  failed = p.broken;
-  faults = rises peer p.given p.wire s m failed p.broken p.trace p.replies;
+  failed = p.failures;
+  faults = rises peer p.given p.wire s m failed p.failures p.trace p.replies;
   taken = (let e = p.taken in let z = p.ready in omega arith);
   pending = (λ e. absurd (cc), λ e. absurd (let z = p.ready in omega arith));
   replies = p.replies;
@@ -265,18 +265,18 @@ sent_first f peer mine before items x bytes count failed s m n e first b p step 
     polled_sent peer before (map f (drop 1 items)) (f x) count failed s m n (subst R (front_of f items x (sym first)) p) (offered_first f peer mine items x bytes Sent m n e b step)
 
 pub failed_first : {A : Type 0} (f : A → List ℕ) (peer mine : ℕ) (before : List (List ℕ)) (items : List A) (x : A) (bytes : List ℕ) (count failed : ℕ) (s m n : Meaning)
-    → mine ≡ peer → Some x ≡ slice_get items 0 → bytes ≡ f x → IsPolled peer before (map f items) count failed s m → Step m (OnWire (Offered (parcel mine bytes) Broken)) n → IsPolled peer before (map f (drop 1 items)) count (failed + 1) s n
+    → mine ≡ peer → Some x ≡ slice_get items 0 → bytes ≡ f x → IsPolled peer before (map f items) count failed s m → Step m (OnWire (Offered (parcel mine bytes) Failed)) n → IsPolled peer before (map f (drop 1 items)) count (failed + 1) s n
 failed_first f peer mine before items x bytes count failed s m n e first b p step =
     let R : List (List ℕ) → Type 0 = λ l. IsPolled peer before l count failed s m in
-    polled_failed peer before (map f (drop 1 items)) (f x) count failed s m n (subst R (front_of f items x (sym first)) p) (offered_first f peer mine items x bytes Broken m n e b step)
+    polled_failed peer before (map f (drop 1 items)) (f x) count failed s m n (subst R (front_of f items x (sym first)) p) (offered_first f peer mine items x bytes Failed m n e b step)
 
-pub busy_first : {A : Type 0} (f : A → List ℕ) (peer mine : ℕ) (before : List (List ℕ)) (items : List A) (x : A) (bytes : List ℕ) (count failed : ℕ) (s m n : Meaning)
-    → mine ≡ peer → Some x ≡ slice_get items 0 → bytes ≡ f x → IsPolled peer before (map f items) count failed s m → Step m (OnWire (Offered (parcel mine bytes) Busy)) n → Polls peer before (record { pending = true; sent = count; failed = failed }) (map f items) s n
-busy_first f peer mine before items x bytes count failed s m n e first b p step =
+pub not_ready_first : {A : Type 0} (f : A → List ℕ) (peer mine : ℕ) (before : List (List ℕ)) (items : List A) (x : A) (bytes : List ℕ) (count failed : ℕ) (s m n : Meaning)
+    → mine ≡ peer → Some x ≡ slice_get items 0 → bytes ≡ f x → IsPolled peer before (map f items) count failed s m → Step m (OnWire (Offered (parcel mine bytes) NotReady)) n → Polls peer before (record { pending = true; sent = count; failed = failed }) (map f items) s n
+not_ready_first f peer mine before items x bytes count failed s m n e first b p step =
     let R : List (List ℕ) → Type 0 = λ l. IsPolled peer before l count failed s m in
     let Q : List (List ℕ) → Type 0 = λ l. Polls peer before (record { pending = true; sent = count; failed = failed }) l s n in
     let same = front_of f items x (sym first) in
-    subst Q (sym same) (polled_busy peer before (map f (drop 1 items)) (f x) count failed s m n (record { pending = true; sent = count; failed = failed }) refl (subst R same p) (offered_first f peer mine items x bytes Busy m n e b step))
+    subst Q (sym same) (polled_not_ready peer before (map f (drop 1 items)) (f x) count failed s m n (record { pending = true; sent = count; failed = failed }) refl (subst R same p) (offered_first f peer mine items x bytes NotReady m n e b step))
 
 pub none_first : {A : Type 0} (f : A → List ℕ) (items : List A) → None ≡ slice_get items 0 → map f items ≡ []
 none_first f [] e = refl

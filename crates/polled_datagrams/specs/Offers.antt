@@ -1,6 +1,6 @@
 -- The calls of one poll, and what calls of the wire mean to each peer.
 use Rattle.std.specs.Prelude.{◌==◌, ℕ, List, [], ◌∷◌, if◌then◌else◌}
-use Rattle.wire_model.specs.Link.{LinkAnswer, Sent, Busy, Broken}
+use Rattle.wire_model.specs.LinkAnswers.{LinkAnswer, Sent, NotReady, Failed}
 use Rattle.scl_outside.specs.Meaning.{Parcel, Reply}
 use Rattle.scl_outside.specs.Events.{Event, WireEvent, Offered, OnWire}
 use Rattle.scl_outside.specs.WireAnswers.{parcel}
@@ -10,8 +10,8 @@ abbrev pub offers : ℕ → List (List ℕ) → List LinkAnswer → List WireEve
 offers peer [] answers = []
 offers peer (d ∷ q) [] = []
 offers peer (d ∷ q) (Sent ∷ answers) = Offered (parcel peer d) Sent ∷ offers peer q answers
-offers peer (d ∷ q) (Broken ∷ answers) = Offered (parcel peer d) Broken ∷ offers peer q answers
-offers peer (d ∷ q) (Busy ∷ answers) = Offered (parcel peer d) Busy ∷ []
+offers peer (d ∷ q) (Failed ∷ answers) = Offered (parcel peer d) Failed ∷ offers peer q answers
+offers peer (d ∷ q) (NotReady ∷ answers) = Offered (parcel peer d) NotReady ∷ []
 
 -- Calls of the wire are calls of the outside.
 abbrev pub on_wire : List WireEvent → List Event

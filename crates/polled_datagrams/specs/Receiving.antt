@@ -1,6 +1,6 @@
 -- What a poll for a datagram does.
 use Rattle.std.specs.Prelude.{◌≡◌, ℕ, List, take, length, min}
-use Rattle.wire_model.specs.Link.{Arrived, NotReady, Closed, Failed}
+use Rattle.wire_model.specs.Receptions.{Arrived, NotReady, Closed, Failed}
 use Rattle.scl_outside.specs.Meaning.{Meaning}
 use Rattle.scl_outside.specs.Events.{OnWire, Received}
 use Rattle.scl_outside.specs.Steps.{Step}

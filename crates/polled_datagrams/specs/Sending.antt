@@ -1,9 +1,9 @@
 -- A queue to one peer, and what a poll of it does.
 use Rattle.std.specs.Prelude.{◌≡◌, ◌+◌, ◌++◌, ◌↔◌, ℕ, true, List, [], ◌∷◌, length, map, nat_lt}
 use Rattle.std.specs.Rc.{rc_slice_items}
-use Rattle.wire_model.specs.Link.{LinkAnswer}
+use Rattle.wire_model.specs.LinkAnswers.{LinkAnswer}
 use Rattle.relay_model.specs.Queue.{Tale, poll}
-use Rattle.relay_model.specs.Relays.{busy_count, broken_count}
+use Rattle.relay_model.specs.Relays.{not_ready_count, failure_count}
 use Rattle.relay_model.specs.Laws.{IsSettled}
 use Rattle.scl_outside.specs.Meaning.{Meaning}
 use Rattle.scl_outside.specs.Events.{WireEvent}
@@ -49,9 +49,9 @@ pub record Polls (peer : ℕ) (before : List (List ℕ)) (r : Flushed) (after : 
       }
   pub settled : IsSettled after given
   pub number : r.sent ≡ length sent
-  pub failed : r.failed ≡ broken_count given
-  pub taken : length given ≡ r.sent + r.failed + busy_count given
-  pub pending : (r.pending ≡ true) ↔ (busy_count given ≡ 1)
+  pub failed : r.failed ≡ failure_count given
+  pub taken : length given ≡ r.sent + r.failed + not_ready_count given
+  pub pending : (r.pending ≡ true) ↔ (not_ready_count given ≡ 1)
   pub faults : Counts (nat_lt 0 r.failed) (s.wire.peer_faults peer) (t.wire.peer_faults peer)
   pub replies : answers wire ≡ replies_of peer given
   pub parcels : parcels wire ≡ parcels_of peer sent

@@ -3,7 +3,7 @@ use Rattle.std.proofs.Common.{◌≡◌, ◌++◌, ◌+◌, ◌&&◌, ◌||◌, 
 use Rattle.std.specs.List.{flat_map}
 use Rattle.std.proofs.lemmas.List.{append-nil}
 use Rattle.std.proofs.lemmas.List.Concat.{flat_map-append}
-use Rattle.wire_model.specs.Link.{Reception, Arrived, NotReady, Closed, Failed}
+use Rattle.wire_model.specs.Receptions.{Reception, Arrived, NotReady, Closed, Failed}
 use Rattle.relay_model.specs.Lines.{came, has_closed, malformed_count}
 use Rattle.wire_model.specs.Datagram.{is_well_formed}
 use Rattle.scl_outside.specs.Meaning.{Parcel, Reply}

@@ -4,7 +4,8 @@ use Rattle.std.specs.Prelude.{slice_get, decimal, codes}
 use Rattle.std.specs.List.{flat_map}
 use Rattle.std.proofs.lemmas.List.{append-nil}
 use Rattle.std.proofs.lemmas.List.Concat.{flat_map-append}
-use Rattle.wire_model.specs.Link.{Reception, LinkAnswer, Busy}
+use Rattle.wire_model.specs.Receptions.{Reception}
+use Rattle.wire_model.specs.LinkAnswers.{LinkAnswer, NotReady}
 use Rattle.relay_model.specs.Queue.{Tale, Told, untold, turns}
 use Rattle.relay_model.specs.Relays.{given_by, relay_tale, left_over, HasTurned}
 use Rattle.relay_model.specs.Lines.{came, has_closed, malformed_count, end_word, relay_line, peer_line, peer_lines, relay_lines}

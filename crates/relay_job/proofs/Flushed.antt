@@ -3,9 +3,9 @@ use Rattle.std.proofs.Common.{◌≡◌, ◌≤◌, ◌<◌, ◌+◌, ◌-◌, �
 use Rattle.std.specs.Prelude.{slice_get}
 use Rattle.std.proofs.lemmas.List.{append-nil}
 use Rattle.std.proofs.lemmas.List.Concat.{flat_map-append}
-use Rattle.wire_model.specs.Link.{LinkAnswer, Sent, Busy, Broken}
+use Rattle.wire_model.specs.LinkAnswers.{LinkAnswer, Sent, NotReady, Failed}
 use Rattle.relay_model.specs.Queue.{Tale, Told, untold, poll}
-use Rattle.relay_model.specs.Relays.{broken_count, ends_ready, HasFlushed}
+use Rattle.relay_model.specs.Relays.{failure_count, ends_ready, HasFlushed}
 use Rattle.relay_model.specs.Relays as relays
 use Rattle.relay_model.specs.Laws.{IsSettled}
 use Rattle.relay_model.specs.Lines.{came}
@@ -35,9 +35,9 @@ use Rattle.relay_job.proofs.Working.{total, work, some_less, one_went, none_went
 
 -- what a flush did to a tale
 told_by : (r q : Receiver) (t : Tale) (given : List LinkAnswer) (sent : List (List ℕ)) → queued r ≡ t.left → Served r q given sent
-    → relays.Flushes t given (record { sent = t.sent ++ sent; lost = t.lost; failed = t.failed + broken_count given; left = queued q })
+    → relays.Flushes t given (record { sent = t.sent ++ sent; lost = t.lost; failed = t.failed + failure_count given; left = queued q })
 told_by r q t given sent left h more =
-    let P : List (List ℕ) → Type 0 = λ l. poll t l (given ++ more) ≡ record { tale = record { sent = t.sent ++ sent; lost = t.lost; failed = t.failed + broken_count given; left = queued q }; answers = more } in
+    let P : List (List ℕ) → Type 0 = λ l. poll t l (given ++ more) ≡ record { tale = record { sent = t.sent ++ sent; lost = t.lost; failed = t.failed + failure_count given; left = queued q }; answers = more } in
     subst P left (h.told t more)
 
 -- a flush of an empty queue takes nothing
@@ -47,47 +47,47 @@ empty_stays t u [] given is e = (sym (append-nil given) ∙ ap (λ (x : Told). x
 empty_stays t u (d ∷ q) given is e = absurd (cc)
 
 -- a flush that moved nothing: its queue was empty, or its link wasn't ready
-nothing_moved : (t u : Tale) (q : List (List ℕ)) (given : List LinkAnswer) → ((more : List LinkAnswer) → poll t q (given ++ more) ≡ record { tale = u; answers = more }) → any_moved given ≡ false → (q ≡ []) ⊎ (given ≡ Busy ∷ [])
+nothing_moved : (t u : Tale) (q : List (List ℕ)) (given : List LinkAnswer) → ((more : List LinkAnswer) → poll t q (given ++ more) ≡ record { tale = u; answers = more }) → any_moved given ≡ false → (q ≡ []) ⊎ (given ≡ NotReady ∷ [])
 unfolding poll
 nothing_moved t u [] given h m = inl refl
-nothing_moved t u (d ∷ q) [] h m = let e : [] ≡ Busy ∷ [] = ap (λ (x : Told). x.answers) (h (Busy ∷ [])) in absurd (cc)
-nothing_moved t u (d ∷ q) (Busy ∷ given) h m = let none : given ≡ [] = sym (append-nil given) ∙ ap (λ (x : Told). x.answers) (h []) in inr (ap (λ (l : List LinkAnswer). Busy ∷ l) none)
+nothing_moved t u (d ∷ q) [] h m = let e : [] ≡ NotReady ∷ [] = ap (λ (x : Told). x.answers) (h (NotReady ∷ [])) in absurd (cc)
+nothing_moved t u (d ∷ q) (NotReady ∷ given) h m = let none : given ≡ [] = sym (append-nil given) ∙ ap (λ (x : Told). x.answers) (h []) in inr (ap (λ (l : List LinkAnswer). NotReady ∷ l) none)
 nothing_moved t u (d ∷ q) (Sent ∷ given) h m = absurd (cc)
-nothing_moved t u (d ∷ q) (Broken ∷ given) h m = absurd (cc)
+nothing_moved t u (d ∷ q) (Failed ∷ given) h m = absurd (cc)
 
 -- no link moved
 none_moved : (j : ℕ) (rs : List Reply) → any_moved (links rs) ≡ false → any_moved (answers_to j rs) ≡ false
 none_moved j [] m = refl
 none_moved j (r ∷ rs) m = by r.answer m (λ k. none_moved j rs k) where
-  skipped : (b : Bool) → any_moved (answers_to j rs) ≡ false → any_moved (if b then Busy ∷ answers_to j rs else answers_to j rs) ≡ false
+  skipped : (b : Bool) → any_moved (answers_to j rs) ≡ false → any_moved (if b then NotReady ∷ answers_to j rs else answers_to j rs) ≡ false
   skipped true h = h
   skipped false h = h
 
   by : (a : LinkAnswer) → any_moved (a ∷ links rs) ≡ false → (any_moved (links rs) ≡ false → any_moved (answers_to j rs) ≡ false) → any_moved (answers_to j (record { peer = r.peer; answer = a } ∷ rs)) ≡ false
   by Sent m more = absurd (cc)
-  by Broken m more = absurd (cc)
-  by Busy m more = skipped _ (more m)
+  by Failed m more = absurd (cc)
+  by NotReady m more = skipped _ (more m)
 
 -- what ends with a link that wasn't ready doesn't end ready
-ends_busy : (xs : List LinkAnswer) → ends_ready (xs ++ Busy ∷ []) ≡ 0
+ends_busy : (xs : List LinkAnswer) → ends_ready (xs ++ NotReady ∷ []) ≡ 0
 ends_busy [] = refl
 ends_busy (x ∷ []) = one x where
-  one : (x : LinkAnswer) → ends_ready (x ∷ Busy ∷ []) ≡ 0
+  one : (x : LinkAnswer) → ends_ready (x ∷ NotReady ∷ []) ≡ 0
   one Sent = refl
-  one Busy = refl
-  one Broken = refl
+  one NotReady = refl
+  one Failed = refl
 ends_busy (x ∷ y ∷ xs) = one x (ends_busy (y ∷ xs)) where
-  one : (x : LinkAnswer) → ends_ready (y ∷ (xs ++ Busy ∷ [])) ≡ 0 → ends_ready (x ∷ y ∷ (xs ++ Busy ∷ [])) ≡ 0
+  one : (x : LinkAnswer) → ends_ready (y ∷ (xs ++ NotReady ∷ [])) ≡ 0 → ends_ready (x ∷ y ∷ (xs ++ NotReady ∷ [])) ≡ 0
   one Sent h = h
-  one Busy h = h
-  one Broken h = h
+  one NotReady h = h
+  one Failed h = h
 
-replicate_more : (n : ℕ) → replicate n Busy ++ Busy ∷ [] ≡ replicate (suc n) Busy
+replicate_more : (n : ℕ) → replicate n NotReady ++ NotReady ∷ [] ≡ replicate (suc n) NotReady
 replicate_more zero = refl
-replicate_more (suc n) = ap (λ (l : List LinkAnswer). Busy ∷ l) (replicate_more n)
+replicate_more (suc n) = ap (λ (l : List LinkAnswer). NotReady ∷ l) (replicate_more n)
 
-replicate_next : (n : ℕ) → replicate n Busy ++ Busy ∷ [] ≡ replicate (n + 1) Busy
-replicate_next n = replicate_more n ∙ ap (λ (k : ℕ). replicate k Busy) (let e : suc n ≡ n + 1 = omega arith in e)
+replicate_next : (n : ℕ) → replicate n NotReady ++ NotReady ∷ [] ≡ replicate (n + 1) NotReady
+replicate_next n = replicate_more n ∙ ap (λ (k : ℕ). replicate k NotReady) (let e : suc n ≡ n + 1 = omega arith in e)
 
 -- after one more flush
 waits_after : (idle : ℕ) (t u : Tale) (q : List (List ℕ)) (given new : List LinkAnswer) (some : Bool) → q ≡ t.left → ((more : List LinkAnswer) → poll t q (new ++ more) ≡ record { tale = u; answers = more }) → IsSettled u.left new
@@ -96,21 +96,21 @@ waits_after idle t u q given new true left h (inl none) quiet w = inl none
 waits_after idle t u q given new true left h (inr (before, is)) quiet w = inr (
   given ++ new,
   sym (append-nil (given ++ new)),
-  ap (λ (l : List LinkAnswer). ends_ready (given ++ l)) is ∙ ap ends_ready (sym (append_assoc given before (Busy ∷ []))) ∙ ends_busy (given ++ before),
+  ap (λ (l : List LinkAnswer). ends_ready (given ++ l)) is ∙ ap ends_ready (sym (append_assoc given before (NotReady ∷ []))) ∙ ends_busy (given ++ before),
 )
 waits_after idle t u q given new false left h settled quiet (inl none) = inl (empty_stays t u q new (left ∙ none) (h [])).1
 waits_after idle t u q given new false left h settled quiet (inr (front, is, ends)) = elim (nothing_moved t u q new h (quiet refl)) [
   | inl none ↦ inl (empty_stays t u q new none (h [])).1
   | inr busy ↦ inr (
     front,
-    ap (λ (l : List LinkAnswer). given ++ l) busy ∙ ap (λ (l : List LinkAnswer). l ++ Busy ∷ []) is ∙ append_assoc front (replicate idle Busy) (Busy ∷ []) ∙ ap (λ (l : List LinkAnswer). front ++ l) (replicate_next idle),
+    ap (λ (l : List LinkAnswer). given ++ l) busy ∙ ap (λ (l : List LinkAnswer). l ++ NotReady ∷ []) is ∙ append_assoc front (replicate idle NotReady) (NotReady ∷ []) ∙ ap (λ (l : List LinkAnswer). front ++ l) (replicate_next idle),
     ends,
   )
 ]
 
 -- the tale after a flush
 abbrev pub tale_flushed : Tale → Receiver → List LinkAnswer → List (List ℕ) → Tale
-tale_flushed t q given sent = record { sent = t.sent ++ sent; lost = t.lost; failed = t.failed + broken_count given; left = queued q }
+tale_flushed t q given sent = record { sent = t.sent ++ sent; lost = t.lost; failed = t.failed + failure_count given; left = queued q }
 
 -- one receiver that was flushed once more
 one_flushed : (idle j : ℕ) (p : Target) (turned flushed ws : List WireEvent) (r q : Receiver) (t : Tale) (some : Bool) → length (came (receptions turned)) ≤ 8388607 → (some ≡ false → any_moved (answers_to j (answers ws)) ≡ false)
@@ -136,7 +136,7 @@ one_flushed idle j p turned flushed ws r q t some most quiet h served =
       counted = record {
         sent = served.sent_count ∙ ap (λ (n : ℕ). count_after n (length sent)) h.counted.sent ∙ counted (length t.sent) (length sent) (let n = length-append t.sent sent in omega (arith, same, before, most, n)) ∙ sym (length-append t.sent sent);
         lost = served.lost ∙ h.counted.lost;
-        failed = served.failed_count ∙ ap (λ (n : ℕ). count_after n (broken_count given)) h.counted.failed ∙ counted t.failed (broken_count given) (omega (arith, same, before, most));
+        failed = served.failed_count ∙ ap (λ (n : ℕ). count_after n (failure_count given)) h.counted.failed ∙ counted t.failed (failure_count given) (omega (arith, same, before, most));
         left = refl;
       };
       few = omega (arith, same, before);

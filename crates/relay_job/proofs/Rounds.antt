@@ -2,7 +2,9 @@
 use Rattle.std.proofs.Common.{◌≡◌, ◌≤◌, ◌<◌, ◌+◌, ◌-◌, ◌^◌, ◌++◌, ◌&&◌, ◌||◌, ◌⊎◌, inl, inr, ℕ, Bool, true, false, nat_le, List, [], ◌∷◌, Result, Ok, Err, length, if◌then◌else◌, refl, sym, ◌∙◌, ap, subst, arith}
 use Rattle.std.specs.Prelude.{codes}
 use Rattle.std.proofs.lemmas.Bool.Decides.{nat_tests}
-use Rattle.wire_model.specs.Link.{Reception, Arrived, NotReady, Closed, Failed, LinkAnswer, Sent, Busy, Broken}
+use Rattle.wire_model.specs.Receptions.{Reception, Arrived, NotReady, Closed, Failed}
+use Rattle.wire_model.specs.LinkAnswers.{LinkAnswer}
+use Rattle.wire_model.specs.LinkAnswers as link
 use Rattle.relay_model.specs.Lines.{came, has_closed, end_word}
 use Rattle.scl_outside.specs.Meaning.{Meaning, Reply}
 use Rattle.scl_outside.specs.Events.{Event, WireEvent, OnWire, Received, wire_fails}
@@ -23,7 +25,7 @@ use Rattle.relay_job.specs.declared.serving.End.TheVariants as end
 use Rattle.relay_job.specs.declared.serving.Round.{Round}
 use Rattle.relay_job.specs.declared.serving.Round.TheVariants.{On, Over, Stop}
 use Rattle.relay_job.specs.Settings.{Settings}
-use Rattle.relay_job.specs.Turns.{all_busy, is_not_ready, is_idle, idle_run, turns_of}
+use Rattle.relay_job.specs.Turns.{all_not_ready, is_not_ready, is_idle, idle_run, turns_of}
 use Rattle.relay_job.specs.Job.{HasEnded, are_offers, relay_job}
 use Rattle.relay_job.specs.Serving.{Turned, IsOpen, IsRound, Rounds, Follows, ServeGives, word_of}
 use Rattle.relay_job.proofs.Calls.{offers_of, the_turn, turns_more, run_more}
@@ -36,13 +38,13 @@ pub record After (s : Settings) (q : Relay) (m o : Meaning) (es : List Event) (w
   pub not_closed : has_closed (receptions wire) ≡ false
   pub last : idle_run 0 (turns_of wire) ≡ idle
 
-busy_links : (rs : List Reply) → all_busy rs ≡ (if any_moved (links rs) then false else true)
+busy_links : (rs : List Reply) → all_not_ready rs ≡ (if any_moved (links rs) then false else true)
 busy_links [] = refl
 busy_links (r ∷ rs) = by r.answer (busy_links rs) where
-  by : (a : LinkAnswer) → all_busy rs ≡ (if any_moved (links rs) then false else true) → all_busy (record { peer = r.peer; answer = a } ∷ rs) ≡ (if any_moved (a ∷ links rs) then false else true)
-  by Sent e = refl
-  by Broken e = refl
-  by Busy e = e
+  by : (a : LinkAnswer) → all_not_ready rs ≡ (if any_moved (links rs) then false else true) → all_not_ready (record { peer = r.peer; answer = a } ∷ rs) ≡ (if any_moved (a ∷ links rs) then false else true)
+  by link.Sent e = refl
+  by link.Failed e = refl
+  by link.NotReady e = e
 
 -- what was received in a turn with this answer
 record Kind (got : Reception) (some : Bool) (idle : Bool) : Type 0 where

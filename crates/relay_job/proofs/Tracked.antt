@@ -1,10 +1,12 @@
 -- One receiver in a turn.
 use Rattle.std.proofs.Common.{◌≡◌, ◌≤◌, ◌<◌, ◌+◌, ◌-◌, ◌^◌, ◌++◌, ℕ, Bool, true, false, List, [], ◌∷◌, Option, Some, None, length, map, min, max, nat_lt, if◌then◌else◌, refl, sym, ◌∙◌, ap, subst, arith, length-append}
 use Rattle.std.proofs.lemmas.List.{append-nil}
-use Rattle.wire_model.specs.Link.{Reception, Arrived, NotReady, Closed, Failed, LinkAnswer, Sent, Busy, Broken}
+use Rattle.wire_model.specs.Receptions.{Reception, Arrived, NotReady, Closed, Failed}
+use Rattle.wire_model.specs.LinkAnswers.{LinkAnswer}
+use Rattle.wire_model.specs.LinkAnswers as link
 use Rattle.wire_model.specs.Thinning.{is_kept}
 use Rattle.relay_model.specs.Queue.{Tale, Told, untold, poll, turn}
-use Rattle.relay_model.specs.Relays.{given_by, broken_count, HasTurned}
+use Rattle.relay_model.specs.Relays.{given_by, failure_count, HasTurned}
 use Rattle.relay_model.specs.Relays as relays
 use Rattle.relay_model.specs.Lines.{came}
 use Rattle.relay_model.proofs.Tales.{turns_told}
@@ -32,9 +34,9 @@ poll_size : (t : Tale) (q : List (List ℕ)) (given : List LinkAnswer) → size 
 unfolding poll
 poll_size t [] given = refl
 poll_size t (d ∷ q) [] = refl
-poll_size t (d ∷ q) (Busy ∷ given) = refl
-poll_size t (d ∷ q) (Sent ∷ given) = let e = poll_size (record t { sent = t.sent ++ d ∷ [] }) q given in let n = length-append t.sent (d ∷ []) in omega (arith, e, n)
-poll_size t (d ∷ q) (Broken ∷ given) = let e = poll_size (record t { failed = t.failed + 1 }) q given in omega (arith, e)
+poll_size t (d ∷ q) (link.NotReady ∷ given) = refl
+poll_size t (d ∷ q) (link.Sent ∷ given) = let e = poll_size (record t { sent = t.sent ++ d ∷ [] }) q given in let n = length-append t.sent (d ∷ []) in omega (arith, e, n)
+poll_size t (d ∷ q) (link.Failed ∷ given) = let e = poll_size (record t { failed = t.failed + 1 }) q given in omega (arith, e)
 
 -- a flush keeps it
 pub flush_size : (t u : Tale) (given : List LinkAnswer) → relays.Flushes t given u → size u ≡ size t
@@ -92,7 +94,7 @@ abbrev pub tale_after : Tale → Reception → Receiver → Receiver → List Li
 tale_after t got r q took sent = record {
   sent = t.sent ++ sent;
   lost = t.lost + missed (depth_of r.queue) (kept_of r.limit (given_by got)) (queued r);
-  failed = t.failed + broken_count took;
+  failed = t.failed + failure_count took;
   left = queued q;
 }
 
@@ -140,7 +142,7 @@ tracked j p wire ws got r q t offers h served few =
       counted = record {
         sent = served.sent_count ∙ ap (λ (n : ℕ). count_after n (length sent)) h.counted.sent ∙ counted (length t.sent) (length sent) (let n = length-append t.sent sent in omega (arith, within, few, n)) ∙ sym (length-append t.sent sent);
         lost = served.lost_count ∙ ap (λ (n : ℕ). count_after n lost) h.counted.lost ∙ counted t.lost lost (omega (arith, within, few));
-        failed = served.failed_count ∙ ap (λ (n : ℕ). count_after n (broken_count took)) h.counted.failed ∙ counted t.failed (broken_count took) (omega (arith, within, few));
+        failed = served.failed_count ∙ ap (λ (n : ℕ). count_after n (failure_count took)) h.counted.failed ∙ counted t.failed (failure_count took) (omega (arith, within, few));
         left = refl;
       };
       few = within;

@@ -5,7 +5,9 @@ use Rattle.std.specs.List.{flat_map}
 use Rattle.std.proofs.lemmas.List.{append-nil}
 use Rattle.std.proofs.lemmas.List.Concat.{flat_map-append}
 use Rattle.std.proofs.lemmas.Bool.Decides.{nat_tests}
-use Rattle.wire_model.specs.Link.{Reception, Arrived, NotReady, Closed, Failed, LinkAnswer, Sent, Busy, Broken}
+use Rattle.wire_model.specs.Receptions.{Reception, Arrived, NotReady, Closed, Failed}
+use Rattle.wire_model.specs.LinkAnswers.{LinkAnswer}
+use Rattle.wire_model.specs.LinkAnswers as link
 use Rattle.wire_model.specs.Datagram.{is_well_formed}
 use Rattle.relay_model.specs.Queue.{Tale}
 use Rattle.relay_model.specs.Relays.{relay_tale}
@@ -32,7 +34,7 @@ use Rattle.relay_job.specs.declared.serving.End.{End}
 use Rattle.relay_job.specs.declared.serving.End.TheVariants as end
 use Rattle.relay_job.specs.declared.serving.Round.TheVariants.{On, Over, Stop}
 use Rattle.relay_job.specs.Settings.{Target, Settings, addresses}
-use Rattle.relay_job.specs.Turns.{all_busy, is_not_ready, is_idle, idle_run, turns_of, has_failed, EachIsPolled}
+use Rattle.relay_job.specs.Turns.{all_not_ready, is_not_ready, is_idle, idle_run, turns_of, has_failed, EachIsPolled}
 use Rattle.relay_job.specs.Job.{tale_of, naming, SendsEach, MayReceive, HasEnded, KeepsToWords, are_offers, named_by, relay_job}
 use Rattle.relay_job.specs.Serving.{Tracks, Turned, IsOpen, IsRound, Rounds, Follows, ServeGives, word_of}
 use Rattle.relay_job.proofs.Calls.{on, effects_on, offers_of, are, failed-append, names_of, names-append, offers_follow, the_turn, turns_more, receptions_more, parcels_more, run_more, came-append, closed-append, malformed-append}

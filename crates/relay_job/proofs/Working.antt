@@ -5,7 +5,9 @@ use Rattle.std.proofs.lemmas.List.{append-nil}
 use Rattle.std.proofs.lemmas.Bool.{eq-eqb}
 use Rattle.std.proofs.lemmas.Bool.Decides.{nat_tests}
 use Rattle.std.proofs.Math.Nat.{mul-le-mul_left, mul-add}
-use Rattle.wire_model.specs.Link.{Reception, Arrived, NotReady, Closed, Failed, LinkAnswer, Sent, Busy, Broken}
+use Rattle.wire_model.specs.Receptions.{Reception, Arrived, NotReady, Closed, Failed}
+use Rattle.wire_model.specs.LinkAnswers.{LinkAnswer}
+use Rattle.wire_model.specs.LinkAnswers as link
 use Rattle.relay_model.specs.Queue.{Tale, Told, untold, poll}
 use Rattle.relay_model.specs.Relays.{given_by}
 use Rattle.relay_model.specs.Relays as relays
@@ -36,9 +38,9 @@ pub poll_left : (t : Tale) (q : List (List ℕ)) (given : List LinkAnswer) → l
 unfolding poll
 poll_left t [] given = omega arith
 poll_left t (d ∷ q) [] = omega arith
-poll_left t (d ∷ q) (Busy ∷ given) = omega arith
-poll_left t (d ∷ q) (Sent ∷ given) = let h = poll_left (record t { sent = t.sent ++ d ∷ [] }) q given in omega (arith, h)
-poll_left t (d ∷ q) (Broken ∷ given) = let h = poll_left (record t { failed = t.failed + 1 }) q given in omega (arith, h)
+poll_left t (d ∷ q) (link.NotReady ∷ given) = omega arith
+poll_left t (d ∷ q) (link.Sent ∷ given) = let h = poll_left (record t { sent = t.sent ++ d ∷ [] }) q given in omega (arith, h)
+poll_left t (d ∷ q) (link.Failed ∷ given) = let h = poll_left (record t { failed = t.failed + 1 }) q given in omega (arith, h)
 
 nothing_taken : (a b : Told) (given : List LinkAnswer) → a ≡ b → a.answers ≡ given ++ [] → b.answers ≡ [] → given ≡ []
 nothing_taken a b given e f g = sym (append-nil given) ∙ (sym f ∙ (ap (λ (x : Told). x.answers) e ∙ g))
@@ -49,14 +51,14 @@ left_less t u [] given e m =
     let none : given ≡ [] = sym (append-nil given) ∙ ap (λ (x : Told). x.answers) e in
     absurd (let f : any_moved given ≡ false = ap any_moved none in let g : true ≡ false = sym m ∙ f in cc)
 left_less t u (d ∷ q) [] e m = absurd (cc)
-left_less t u (d ∷ q) (Busy ∷ given) e m =
+left_less t u (d ∷ q) (link.NotReady ∷ given) e m =
     let none : given ≡ [] = sym (append-nil given) ∙ ap (λ (x : Told). x.answers) e in
     absurd (let f : any_moved given ≡ false = ap any_moved none in let g : true ≡ false = sym m ∙ f in cc)
-left_less t u (d ∷ q) (Sent ∷ given) e m =
+left_less t u (d ∷ q) (link.Sent ∷ given) e m =
     let h = poll_left (record t { sent = t.sent ++ d ∷ [] }) q (given ++ []) in
     let f : length (poll (record t { sent = t.sent ++ d ∷ [] }) q (given ++ [])).tale.left ≡ length u.left = ap (λ (x : Told). length x.tale.left) e in
     omega (arith, h, f)
-left_less t u (d ∷ q) (Broken ∷ given) e m =
+left_less t u (d ∷ q) (link.Failed ∷ given) e m =
     let h = poll_left (record t { failed = t.failed + 1 }) q (given ++ []) in
     let f : length (poll (record t { failed = t.failed + 1 }) q (given ++ [])).tale.left ≡ length u.left = ap (λ (x : Told). length x.tale.left) e in
     omega (arith, h, f)
@@ -68,14 +70,14 @@ a_link_moved (r ∷ rs) m = by r.answer m (λ k. a_link_moved rs k) where
   same : (a : LinkAnswer) → any_moved (a ∷ answers_to r.peer rs) ≡ true → any_moved (answers_to r.peer (record { peer = r.peer; answer = a } ∷ rs)) ≡ true
   same a h = rw (eq-eqb r.peer r.peer refl) h
 
-  skipped : (b : Bool) (j : ℕ) → any_moved (answers_to j rs) ≡ true → any_moved (if b then Busy ∷ answers_to j rs else answers_to j rs) ≡ true
+  skipped : (b : Bool) (j : ℕ) → any_moved (answers_to j rs) ≡ true → any_moved (if b then link.NotReady ∷ answers_to j rs else answers_to j rs) ≡ true
   skipped true j h = h
   skipped false j h = h
 
   by : (a : LinkAnswer) → any_moved (a ∷ links rs) ≡ true → (any_moved (links rs) ≡ true → (j : ℕ) × (any_moved (answers_to j rs) ≡ true)) → (j : ℕ) × (any_moved (answers_to j (record { peer = r.peer; answer = a } ∷ rs)) ≡ true)
-  by Sent m more = (r.peer, same Sent refl)
-  by Broken m more = (r.peer, same Broken refl)
-  by Busy m more = let k = more m in (k.0, skipped (r.peer == k.0) k.0 k.1)
+  by link.Sent m more = (r.peer, same link.Sent refl)
+  by link.Failed m more = (r.peer, same link.Failed refl)
+  by link.NotReady m more = let k = more m in (k.0, skipped (r.peer == k.0) k.0 k.1)
 
 -- what waits, receiver by receiver
 total_one_more : (rs qs : List Receiver) → length qs ≡ length rs → ((j : ℕ) (a c : Receiver) → slice_get rs j ≡ Some a → slice_get qs j ≡ Some c → length (queued c) ≤ length (queued a) + 1) → total qs ≤ total rs + length rs

@@ -1,7 +1,7 @@
 -- What the flushes of a relay do.
 use Rattle.std.specs.Prelude.{◌≡◌, ◌≤◌, ◌+◌, ◌++◌, ◌⊎◌, ℕ, true, false, List, [], length, map, replicate, Some}
 use Rattle.std.specs.List.{slice_get}
-use Rattle.wire_model.specs.Link.{LinkAnswer, Busy}
+use Rattle.wire_model.specs.LinkAnswers.{LinkAnswer, NotReady}
 use Rattle.relay_model.specs.Queue.{Tale}
 use Rattle.relay_model.specs.Relays.{given_by, ends_ready, HasTurned, HasFlushed}
 use Rattle.relay_model.specs.Lines.{came}
@@ -25,7 +25,7 @@ AreEmpty rs = (j : ℕ) (r : Receiver) → slice_get rs j ≡ Some r → queued 
 
 -- A receiver's queue is empty, or the last flushes, in this number, took one answer each, that its link wasn't ready.
 abbrev pub HasWaited : ℕ → List (List ℕ) → List LinkAnswer → Type 0
-HasWaited idle left given = (left ≡ []) ⊎ ((front : List LinkAnswer) × (given ≡ front ++ replicate idle Busy) × (ends_ready front ≡ 0))
+HasWaited idle left given = (left ≡ []) ⊎ ((front : List LinkAnswer) × (given ≡ front ++ replicate idle NotReady) × (ends_ready front ≡ 0))
 
 -- The receiver with this number has the tale of turns by the first calls of the wire, and then of flushes by the
 -- others; its last flushes, in the number `idle`, moved nothing.

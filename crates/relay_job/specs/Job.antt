@@ -1,7 +1,7 @@
 -- The job of `relay`.
 use Rattle.std.specs.Prelude.{◌≡◌, ◌≤◌, ◌<◌, ◌+◌, ◌++◌, ◌⊎◌, ℕ, Bool, true, false, List, [], ◌∷◌, length, map, replicate, Some, if◌then◌else◌}
 use Rattle.std.specs.List.{slice_get, flat_map}
-use Rattle.wire_model.specs.Link.{LinkAnswer, Busy}
+use Rattle.wire_model.specs.LinkAnswers.{LinkAnswer, NotReady}
 use Rattle.relay_model.specs.Queue.{Tale}
 use Rattle.relay_model.specs.Relays.{given_by, left_over, ends_ready, relay_tale}
 use Rattle.relay_model.specs.Lines.{came, has_closed, relay_lines}
@@ -67,7 +67,7 @@ abbrev pub HasDrained : ℕ → ℕ → Target → Seen → Type 0
 HasDrained idle j r x =
     ((tale_of j r x).left ≡ [])
     ⊎ ((front : List LinkAnswer)
-    × (left_over r.limit r.depth (map given_by x.received) (answers_to j x.answers) ≡ front ++ replicate idle Busy)
+    × (left_over r.limit r.depth (map given_by x.received) (answers_to j x.answers) ≡ front ++ replicate idle NotReady)
     × (ends_ready front ≡ 0))
 
 -- All is done on the wire: the turns ended, each polled each receiver once, and then each receiver was flushed

@@ -1,7 +1,9 @@
 -- The turns of a relay, as its calls of the wire show them.
 use Rattle.std.specs.Prelude.{◌≡◌, ◌+◌, ◌&&◌, ℕ, Bool, true, false, List, [], ◌∷◌, if◌then◌else◌, Some}
 use Rattle.std.specs.List.{slice_get}
-use Rattle.wire_model.specs.Link.{Reception, NotReady, Failed, LinkAnswer, Busy}
+use Rattle.wire_model.specs.Receptions.{Reception, NotReady, Failed}
+use Rattle.wire_model.specs.LinkAnswers.{LinkAnswer}
+use Rattle.wire_model.specs.LinkAnswers as link
 use Rattle.relay_model.specs.Queue.{Tale, untold}
 use Rattle.relay_model.specs.Relays.{given_by, Turns}
 use Rattle.relay_model.specs.Laws.{IsSettled}
@@ -29,12 +31,12 @@ turns_of (Received r ∷ ws) = record { got = r; replies = replies_before ws } �
 turns_of (w ∷ ws) = turns_of ws
 
 -- No link was ready.
-abbrev pub all_busy : List Reply → Bool
-all_busy [] = true
-all_busy (r ∷ replies) = is_busy r.answer && all_busy replies where
-  is_busy : LinkAnswer → Bool
-  is_busy Busy = true
-  is_busy answer = false
+abbrev pub all_not_ready : List Reply → Bool
+all_not_ready [] = true
+all_not_ready (r ∷ replies) = was_not_ready r.answer && all_not_ready replies where
+  was_not_ready : LinkAnswer → Bool
+  was_not_ready link.NotReady = true
+  was_not_ready answer = false
 
 -- No datagram was there.
 abbrev pub is_not_ready : Reception → Bool
@@ -43,7 +45,7 @@ is_not_ready r = false
 
 -- In an idle turn nothing came, and nothing was sent or failed.
 abbrev pub is_idle : TurnTaken → Bool
-is_idle t = is_not_ready t.got && all_busy t.replies
+is_idle t = is_not_ready t.got && all_not_ready t.replies
 
 -- After this number of idle turns in a row, and then these turns, the last turns of this number were idle.
 abbrev pub idle_run : ℕ → List TurnTaken → ℕ

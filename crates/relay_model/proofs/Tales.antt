@@ -1,9 +1,10 @@
 -- Turns and flushes, one after another.
 use Rattle.std.proofs.Common.{◌≡◌, ◌≢◌, ◌+◌, ◌++◌, ◌⊎◌, inl, inr, ℕ, zero, suc, List, [], ◌∷◌, Option, map, refl, sym, ◌∙◌, ap, subst, append_assoc, arith}
 use Rattle.std.proofs.lemmas.List.{append-nil}
-use Rattle.wire_model.specs.Link.{Reception, LinkAnswer, Sent, Busy, Broken}
+use Rattle.wire_model.specs.Receptions.{Reception}
+use Rattle.wire_model.specs.LinkAnswers.{LinkAnswer, Sent, NotReady, Failed}
 use Rattle.relay_model.specs.Queue.{Tale, Told, untold, poll, turn, turns, flushes}
-use Rattle.relay_model.specs.Relays.{given_by, busy_count, ends_ready, flush_count, relay_tale, Turns, Flushes, HasTurned, HasFlushed}
+use Rattle.relay_model.specs.Relays.{given_by, not_ready_count, ends_ready, flush_count, relay_tale, Turns, Flushes, HasTurned, HasFlushed}
 use Rattle.relay_model.specs.Laws.{TurnsAreTold, FlushesAreTold}
 
 -- a tale and the answers that follow
@@ -48,24 +49,24 @@ flushes_none : (t : Tale) → HasFlushed t [] t
 unfolding flushes
 flushes_none t = record { told = λ more. refl; ends = λ e. absurd (cc) }
 
-busy-append : (xs ys : List LinkAnswer) → busy_count (xs ++ ys) ≡ busy_count xs + busy_count ys
-busy-append [] ys = omega arith
-busy-append (Busy ∷ xs) ys = omega (arith, busy-append xs ys)
-busy-append (Sent ∷ xs) ys = busy-append xs ys
-busy-append (Broken ∷ xs) ys = busy-append xs ys
+not_ready-append : (xs ys : List LinkAnswer) → not_ready_count (xs ++ ys) ≡ not_ready_count xs + not_ready_count ys
+not_ready-append [] ys = omega arith
+not_ready-append (NotReady ∷ xs) ys = omega (arith, not_ready-append xs ys)
+not_ready-append (Sent ∷ xs) ys = not_ready-append xs ys
+not_ready-append (Failed ∷ xs) ys = not_ready-append xs ys
 
 ends-append : (xs : List LinkAnswer) (y : LinkAnswer) (ys : List LinkAnswer) → ends_ready (xs ++ y ∷ ys) ≡ ends_ready (y ∷ ys)
 ends-append [] y ys = refl
 ends-append (x ∷ []) y ys = ends_behind x y ys where
   ends_behind : (x y : LinkAnswer) (ys : List LinkAnswer) → ends_ready (x ∷ y ∷ ys) ≡ ends_ready (y ∷ ys)
-  ends_behind Busy y ys = refl
+  ends_behind NotReady y ys = refl
   ends_behind Sent y ys = refl
-  ends_behind Broken y ys = refl
+  ends_behind Failed y ys = refl
 ends-append (x ∷ z ∷ xs) y ys = ends_behind x z (xs ++ y ∷ ys) ∙ ends-append (z ∷ xs) y ys where
   ends_behind : (x y : LinkAnswer) (ys : List LinkAnswer) → ends_ready (x ∷ y ∷ ys) ≡ ends_ready (y ∷ ys)
-  ends_behind Busy y ys = refl
+  ends_behind NotReady y ys = refl
   ends_behind Sent y ys = refl
-  ends_behind Broken y ys = refl
+  ends_behind Failed y ys = refl
 
 -- what a flush of a queue that isn't empty took: its last answer alone may be that the link wasn't ready, and else the queue is empty
 record OneFlush (answers : List LinkAnswer) (u : Tale) : Type 0 where
@@ -80,7 +81,7 @@ abbrev left_of : Told → List (List ℕ)
 left_of told = told.tale.left
 
 -- an answer before others that is taken and leaves the queue longer than empty
-one_before : (a : LinkAnswer) (answers : List LinkAnswer) (u : Tale) → busy_count (a ∷ answers) ≡ busy_count answers → ((b : LinkAnswer) (bs : List LinkAnswer) → ends_ready (a ∷ b ∷ bs) ≡ ends_ready (b ∷ bs)) → OneFlush answers u → OneFlush (a ∷ answers) u
+one_before : (a : LinkAnswer) (answers : List LinkAnswer) (u : Tale) → not_ready_count (a ∷ answers) ≡ not_ready_count answers → ((b : LinkAnswer) (bs : List LinkAnswer) → ends_ready (a ∷ b ∷ bs) ≡ ends_ready (b ∷ bs)) → OneFlush answers u → OneFlush (a ∷ answers) u
 one_before a [] u e behind one = absurd (one.some refl)
 one_before a (b ∷ bs) u e behind one = record {
   some = λ h. absurd (cc);
@@ -90,27 +91,27 @@ one_before a (b ∷ bs) u e behind one = record {
 
 one_flush : (t u : Tale) (d : List ℕ) (q : List (List ℕ)) (answers : List LinkAnswer) → ((more : List LinkAnswer) → poll t (d ∷ q) (answers ++ more) ≡ at u more) → OneFlush answers u
 unfolding poll
-one_flush t u d q [] h = let e : [] ≡ Busy ∷ [] = ap answers_of (h (Busy ∷ [])) in absurd (cc)
-one_flush t u d q (Busy ∷ answers) h = let e : answers ++ [] ≡ [] = ap answers_of (h []) in let n : answers ≡ [] = sym (append-nil answers) ∙ e in record {
+one_flush t u d q [] h = let e : [] ≡ NotReady ∷ [] = ap answers_of (h (NotReady ∷ [])) in absurd (cc)
+one_flush t u d q (NotReady ∷ answers) h = let e : answers ++ [] ≡ [] = ap answers_of (h []) in let n : answers ≡ [] = sym (append-nil answers) ∙ e in record {
   some = λ k. absurd (cc);
   count = rw n (omega arith);
-  ends = λ k. busy_last answers n k;
+  ends = λ k. not_ready_last answers n k;
 } where
-  busy_last : (l : List LinkAnswer) → l ≡ [] → ends_ready (Busy ∷ l) ≡ 1 → u.left ≡ []
-  busy_last [] n k = absurd (cc)
-  busy_last (a ∷ l) n k = absurd (cc)
+  not_ready_last : (l : List LinkAnswer) → l ≡ [] → ends_ready (NotReady ∷ l) ≡ 1 → u.left ≡ []
+  not_ready_last [] n k = absurd (cc)
+  not_ready_last (a ∷ l) n k = absurd (cc)
 one_flush t u d [] (Sent ∷ answers) h = let e : answers ++ [] ≡ [] = ap answers_of (h []) in let n : answers ≡ [] = sym (append-nil answers) ∙ e in let l : [] ≡ u.left = ap left_of (h []) in record {
   some = λ k. absurd (cc);
   count = rw n (omega arith);
   ends = λ k. sym l;
 }
 one_flush t u d (f ∷ q) (Sent ∷ answers) h = one_before Sent answers u refl (λ b bs. refl) (one_flush (record t { sent = t.sent ++ d ∷ [] }) u f q answers h)
-one_flush t u d [] (Broken ∷ answers) h = let e : answers ++ [] ≡ [] = ap answers_of (h []) in let n : answers ≡ [] = sym (append-nil answers) ∙ e in let l : [] ≡ u.left = ap left_of (h []) in record {
+one_flush t u d [] (Failed ∷ answers) h = let e : answers ++ [] ≡ [] = ap answers_of (h []) in let n : answers ≡ [] = sym (append-nil answers) ∙ e in let l : [] ≡ u.left = ap left_of (h []) in record {
   some = λ k. absurd (cc);
   count = rw n (omega arith);
   ends = λ k. sym l;
 }
-one_flush t u d (f ∷ q) (Broken ∷ answers) h = one_before Broken answers u refl (λ b bs. refl) (one_flush (record t { failed = t.failed + 1 }) u f q answers h)
+one_flush t u d (f ∷ q) (Failed ∷ answers) h = one_before Failed answers u refl (λ b bs. refl) (one_flush (record t { failed = t.failed + 1 }) u f q answers h)
 
 -- a flush of an empty queue takes nothing
 no_flush : (t u : Tale) (answers : List LinkAnswer) → t.left ≡ [] → ((more : List LinkAnswer) → poll t t.left (answers ++ more) ≡ at u more) → (answers ≡ []) × (u ≡ t)
@@ -127,7 +128,7 @@ flushed_more : (t u v : Tale) (answers new : List LinkAnswer) → HasFlushed t a
 flushed_more t u v answers [] h one ready k = absurd (one.some refl)
 flushed_more t u v answers (b ∷ bs) h one ready k = record { told = told; ends = λ e. one.ends (sym (ends-append answers b bs) ∙ e) } where
   number : flush_count (answers ++ b ∷ bs) ≡ suc (flush_count answers)
-  number = rw (busy-append answers (b ∷ bs), ends-append answers b bs) (let c = one.count in omega arith)
+  number = rw (not_ready-append answers (b ∷ bs), ends-append answers b bs) (let c = one.count in omega arith)
 
   told : (more : List LinkAnswer) → flushes (at t ((answers ++ b ∷ bs) ++ more)) (flush_count (answers ++ b ∷ bs)) ≡ at v more
   told more =
@@ -139,12 +140,12 @@ flushed_more t u v answers (b ∷ bs) h one ready k = record { told = told; ends
 
 ready_or : (n : ℕ) (answers : List LinkAnswer) → ends_ready answers ≡ n → (n ≡ 0) ⊎ (n ≡ 1)
 ready_or n [] e = inl (sym e)
-ready_or n (Busy ∷ []) e = inl (sym e)
+ready_or n (NotReady ∷ []) e = inl (sym e)
 ready_or n (Sent ∷ []) e = inr (sym e)
-ready_or n (Broken ∷ []) e = inr (sym e)
-ready_or n (Busy ∷ b ∷ bs) e = ready_or n (b ∷ bs) e
+ready_or n (Failed ∷ []) e = inr (sym e)
+ready_or n (NotReady ∷ b ∷ bs) e = ready_or n (b ∷ bs) e
 ready_or n (Sent ∷ b ∷ bs) e = ready_or n (b ∷ bs) e
-ready_or n (Broken ∷ b ∷ bs) e = ready_or n (b ∷ bs) e
+ready_or n (Failed ∷ b ∷ bs) e = ready_or n (b ∷ bs) e
 
 flushes_more : (t u v : Tale) (answers new : List LinkAnswer) → HasFlushed t answers u → Flushes u new v → HasFlushed t (answers ++ new) v
 flushes_more t u v answers new h k = by_queue u.left refl where

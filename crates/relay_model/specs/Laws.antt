@@ -1,16 +1,17 @@
 -- The tale of a receiver is told call by call.
 use Rattle.std.specs.Prelude.{◌≡◌, ◌⊎◌, ◌++◌, ℕ, List, [], ◌∷◌, Option, map}
-use Rattle.wire_model.specs.Link.{Reception, LinkAnswer, Busy}
+use Rattle.wire_model.specs.Receptions.{Reception}
+use Rattle.wire_model.specs.LinkAnswers.{LinkAnswer, NotReady}
 use Rattle.relay_model.specs.Queue.{Tale, untold, poll}
 use Rattle.relay_model.specs.Relays.{Turns, Flushes, HasTurned, HasFlushed, given_by, relay_tale}
 
 -- The last of these answers is that the link wasn't ready.
-abbrev pub EndsBusy : List LinkAnswer → Type 0
-EndsBusy answers = (before : List LinkAnswer) × (answers ≡ before ++ Busy ∷ [])
+abbrev pub EndsNotReady : List LinkAnswer → Type 0
+EndsNotReady answers = (before : List LinkAnswer) × (answers ≡ before ++ NotReady ∷ [])
 
 -- At its end the queue is empty, or the last of these answers was that the link wasn't ready.
 abbrev pub IsSettled : List (List ℕ) → List LinkAnswer → Type 0
-IsSettled left answers = (left ≡ []) ⊎ EndsBusy answers
+IsSettled left answers = (left ≡ []) ⊎ EndsNotReady answers
 
 -- A poll that takes just these answers, whatever answers follow, leaves the queue empty or met a link that
 -- wasn't ready.

@@ -1,6 +1,6 @@
 -- What a relay writes at its end.
 use Rattle.std.specs.Prelude.{◌+◌, ◌++◌, ℕ, Bool, true, false, List, [], ◌∷◌, length, nat_le, if◌then◌else◌, codes, decimal}
-use Rattle.wire_model.specs.Link.{Reception, Arrived, Closed}
+use Rattle.wire_model.specs.Receptions.{Reception, Arrived, Closed}
 use Rattle.wire_model.specs.Datagram.{is_well_formed}
 use Rattle.relay_model.specs.Queue.{Tale}
 

@@ -1,7 +1,7 @@
 -- The tale of one receiver of a relay, told by what came in and what its own link answered; and that of a
 -- sender.
 use Rattle.std.specs.Prelude.{◌≡◌, ◌+◌, ◌++◌, ℕ, zero, suc, List, [], ◌∷◌, length, nat_lt, Option, Some, None, if◌then◌else◌}
-use Rattle.wire_model.specs.Link.{LinkAnswer, Sent, Busy, Broken}
+use Rattle.wire_model.specs.LinkAnswers.{LinkAnswer, Sent, NotReady, Failed}
 use Rattle.wire_model.specs.Thinning.{is_kept}
 
 -- A tale says what was sent, how many datagrams were lost and how many failed, and what is left in the queue.
@@ -36,8 +36,8 @@ unfoldable pub poll : Tale → List (List ℕ) → List LinkAnswer → Told
 poll t [] answers = record { tale = record t { left = [] }; answers = answers }
 poll t (d ∷ q) [] = record { tale = record t { left = d ∷ q }; answers = [] }
 poll t (d ∷ q) (Sent ∷ answers) = poll (record t { sent = t.sent ++ d ∷ [] }) q answers
-poll t (d ∷ q) (Broken ∷ answers) = poll (record t { failed = t.failed + 1 }) q answers
-poll t (d ∷ q) (Busy ∷ answers) = record { tale = record t { left = d ∷ q }; answers = answers }
+poll t (d ∷ q) (Failed ∷ answers) = poll (record t { failed = t.failed + 1 }) q answers
+poll t (d ∷ q) (NotReady ∷ answers) = record { tale = record t { left = d ∷ q }; answers = answers }
 
 -- In a turn the datagram that came joins the queue, and then the link is polled.
 abbrev pub turn : ℕ → ℕ → Told → Option (List ℕ) → Told
@@ -67,9 +67,9 @@ send_tale idle waited t [] answers = record t { left = [] }
 send_tale idle waited t (d ∷ ds) [] = record t { left = d ∷ ds }
 send_tale idle waited t (d ∷ ds) (Sent ∷ answers) =
     send_tale idle 0 (record t { sent = t.sent ++ d ∷ [] }) ds answers
-send_tale idle waited t (d ∷ ds) (Broken ∷ answers) =
+send_tale idle waited t (d ∷ ds) (Failed ∷ answers) =
     send_tale idle 0 (record t { failed = t.failed + 1 }) ds answers
-send_tale idle waited t (d ∷ ds) (Busy ∷ answers) =
+send_tale idle waited t (d ∷ ds) (NotReady ∷ answers) =
     if nat_lt (waited + 1) idle
     then send_tale idle (waited + 1) t (d ∷ ds) answers
     else send_tale idle 0 (record t { lost = t.lost + 1 }) ds answers

@@ -1,7 +1,8 @@
 -- The tale of one receiver, told by the answers of the outside alone: what each turn was given, and the
 -- number of flushes.
 use Rattle.std.specs.Prelude.{◌≡◌, ◌+◌, ◌++◌, ℕ, List, [], ◌∷◌, Option, Some, None, map}
-use Rattle.wire_model.specs.Link.{Reception, Arrived, LinkAnswer, Busy, Broken}
+use Rattle.wire_model.specs.Receptions.{Reception, Arrived}
+use Rattle.wire_model.specs.LinkAnswers.{LinkAnswer, NotReady, Failed}
 use Rattle.relay_model.specs.Queue.{Tale, untold, poll, turn, turns, flushes, queue_tale}
 
 -- A turn was given the datagram that came, by the answer to its call for one.
@@ -10,28 +11,28 @@ given_by (Arrived d) = Some d
 given_by r = None
 
 -- The link wasn't ready this number of times.
-abbrev pub busy_count : List LinkAnswer → ℕ
-busy_count [] = 0
-busy_count (Busy ∷ answers) = busy_count answers + 1
-busy_count (answer ∷ answers) = busy_count answers
+abbrev pub not_ready_count : List LinkAnswer → ℕ
+not_ready_count [] = 0
+not_ready_count (NotReady ∷ answers) = not_ready_count answers + 1
+not_ready_count (answer ∷ answers) = not_ready_count answers
 
 -- This number of calls to the link failed.
-abbrev pub broken_count : List LinkAnswer → ℕ
-broken_count [] = 0
-broken_count (Broken ∷ answers) = broken_count answers + 1
-broken_count (answer ∷ answers) = broken_count answers
+abbrev pub failure_count : List LinkAnswer → ℕ
+failure_count [] = 0
+failure_count (Failed ∷ answers) = failure_count answers + 1
+failure_count (answer ∷ answers) = failure_count answers
 
 -- This is 1 where there is a last answer and it isn't that the link wasn't ready, and else 0.
 abbrev pub ends_ready : List LinkAnswer → ℕ
 ends_ready [] = 0
-ends_ready (Busy ∷ []) = 0
+ends_ready (NotReady ∷ []) = 0
 ends_ready (answer ∷ []) = 1
 ends_ready (answer ∷ next ∷ answers) = ends_ready (next ∷ answers)
 
 -- This number of flushes took these answers: each ends where the link isn't ready, but for the last, which
 -- may have emptied the queue.
 abbrev pub flush_count : List LinkAnswer → ℕ
-flush_count answers = busy_count answers + ends_ready answers
+flush_count answers = not_ready_count answers + ends_ready answers
 
 -- Turns leave these answers over.
 abbrev pub left_over : ℕ → ℕ → List (Option (List ℕ)) → List LinkAnswer → List LinkAnswer

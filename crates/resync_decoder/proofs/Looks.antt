@@ -5,10 +5,10 @@ use Rattle.std.proofs.lemmas.Bool.Decides.{eqb_tells}
 use Rattle.codestream_model.specs.Values.{Head, Place, Grid}
 use Rattle.codestream_model.specs.Values as values
 use Rattle.codestream_model.specs.Precincts.{grids}
-use Rattle.codestream_model.specs.MarkedHeader.{IsPartOfEph}
-use Rattle.codestream_model.specs.Packet.{NeedsPacketHeaderBytes, block_count, segment_bytes}
+use Rattle.codestream_model.specs.Packet.{block_count, segment_bytes}
 use Rattle.codestream_model.specs.PacketHeaderReading.{HeaderReading, Done, Need, Bad}
 use Rattle.codestream_model.specs.MarkedHeader.{marked_header_of}
+use Rattle.codestream_model.proofs.ItemsJudged.{unfinished_short}
 use Rattle.stream_model.specs.Decoder.{Found, Whole, Part, Other, found_packet, found_header, found_segments}
 use Rattle.stream_model.proofs.PacketsFound.{found_some}
 use Rattle.packet_header.specs.Answers.{block_of, why_of, Tells}
@@ -94,19 +94,6 @@ finds_by h p bytes gs eph answer held some few same asked tells =
 pub some_bytes : (bytes : List ℕ) → (length bytes == 0) ≡ false → 1 ≤ length bytes
 some_bytes bytes e = elim (eqb_tells (length bytes) 0) [ inl u ↦ (let f : true ≡ false = sym u.0 ∙ e in absurd (cc)) | inr u ↦ (let n : length bytes ≢ 0 = u.1 in omega arith) ]
 
--- a part of EPH has one byte at most
-part_size : (rest : List ℕ) → IsPartOfEph rest → length rest ≤ 1
-part_size rest (inl e) = omega (arith, ap (λ (l : List ℕ). length l) e)
-part_size rest (inr e) = omega (arith, ap (λ (l : List ℕ). length l) e)
-
--- bytes that end inside a packet header or its EPH are few
-needs_short : (h : Head) (p : Place) (bytes : List ℕ) → NeedsPacketHeaderBytes h p bytes → length bytes < 65538
-needs_short h p bytes (inl n) = omega (arith, n.short)
-needs_short h p bytes (inr l) =
-    let whole = ap (λ (xs : List ℕ). length xs) l.begins.whole in
-    let n = length-append l.begins.header l.rest in
-    omega (arith, l.begins.is_header.short, whole, n, part_size l.rest l.part)
-
 -- what is found is within the bytes
 found_within : (h : Head) (p : Place) (bytes : List ℕ) (f : Found) (r : code.Found) (held : List Block) → IsBytes bytes → found_packet h p bytes ≡ f → Finds f r held → IsFound r (length bytes)
 found_within h p bytes (Whole blocks header size) r held b e (is, same) =
@@ -118,7 +105,7 @@ found_within h p bytes Part r held b e is =
     subst P (sym is) (elim ((found_is h p bytes Part b).0 e) [
       | inl none ↦ (let z = ap (λ (l : List ℕ). length l) none in omega (arith, z))
       | inr needs ↦ elim needs.unfinished [
-        | inl header ↦ omega (arith, needs_short h p bytes header)
+        | inl header ↦ omega (arith, unfinished_short h p bytes header)
         | inr segments ↦ (let w = ap (λ (l : List ℕ). length l) segments.begins.whole in let n = length-append segments.header segments.rest in omega (arith, w, n, segments.fits, segments.lacks))
       ]
     ])

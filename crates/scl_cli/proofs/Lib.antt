@@ -3,7 +3,6 @@ pub mod Grammar
 pub mod Looking
 pub mod Shown
 pub mod Ordered
-pub mod Keeping
 pub mod TurnsTaken
 pub mod SoFar
 pub mod Runs

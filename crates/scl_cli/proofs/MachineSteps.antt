@@ -3,8 +3,9 @@ use Rattle.std.proofs.Common.{◌≡◌, ◌≢◌, ◌≤◌, ◌<◌, ◌+◌,
 use Rattle.std.specs.Prelude.{slice_set, slice_index_or}
 use Rattle.std.proofs.lemmas.Bool.{eqb-true, eq-eqb}
 use Rattle.std.proofs.lemmas.List.{length-append, length-take}
-use Rattle.wire_model.specs.Link.{Reception, Arrived, LinkAnswer, Sent, Busy, Broken}
-use Rattle.wire_model.specs.Link as link
+use Rattle.wire_model.specs.Receptions.{Reception, Arrived}
+use Rattle.wire_model.specs.LinkAnswers.{LinkAnswer, Sent, NotReady, Failed}
+use Rattle.wire_model.specs.Receptions as receptions
 use Rattle.scl_outside.specs.Meaning.{Parcel}
 use Rattle.scl_outside.specs.Events.{WireEvent, OnWire, Received, Offered, Bound, Joined, asks, wire_fails}
 use Rattle.scl_outside.specs.Steps.{Step, WireStep, Counts, Marks}
@@ -40,10 +41,10 @@ on_wire r w f g ps qs e h = record {
 pub received : (r w f r' w' g : ℕ) (ps qs : List Peer) (x : Reception) → r' ≡ r → w' ≡ w → qs ≡ ps → Counts (wire_fails (Received x)) f g → Step (machine_meaning r w f ps) (OnWire (Received x)) (machine_meaning r' w' g qs)
 received r w f r' w' g ps qs x er ew eq h = rw (er, ew, eq) (on_wire r w f g ps ps (Received x) (step x h)) where
   step : (x : Reception) → Counts (wire_fails (Received x)) f g → WireStep (machine_wire f ps) (Received x) (machine_wire g ps)
-  step (link.Arrived d) h = record { inbound = tt; received = tt; sent = refl; replies = refl; bound = refl; joined = refl; peers = omega arith; faults = h; peer_faults = λ j. omega arith }
-  step link.NotReady h = record { inbound = tt; received = tt; sent = refl; replies = refl; bound = refl; joined = refl; peers = omega arith; faults = h; peer_faults = λ j. omega arith }
-  step link.Closed h = record { inbound = tt; received = tt; sent = refl; replies = refl; bound = refl; joined = refl; peers = omega arith; faults = h; peer_faults = λ j. omega arith }
-  step link.Failed h = record { inbound = tt; received = tt; sent = refl; replies = refl; bound = refl; joined = refl; peers = omega arith; faults = h; peer_faults = λ j. omega arith }
+  step (receptions.Arrived d) h = record { inbound = tt; received = tt; sent = refl; replies = refl; bound = refl; joined = refl; peers = omega arith; faults = h; peer_faults = λ j. omega arith }
+  step receptions.NotReady h = record { inbound = tt; received = tt; sent = refl; replies = refl; bound = refl; joined = refl; peers = omega arith; faults = h; peer_faults = λ j. omega arith }
+  step receptions.Closed h = record { inbound = tt; received = tt; sent = refl; replies = refl; bound = refl; joined = refl; peers = omega arith; faults = h; peer_faults = λ j. omega arith }
+  step receptions.Failed h = record { inbound = tt; received = tt; sent = refl; replies = refl; bound = refl; joined = refl; peers = omega arith; faults = h; peer_faults = λ j. omega arith }
 
 -- an address that is bound, or isn't
 pub bound : (r w f g : ℕ) (ps : List Peer) (text : List ℕ) (done : Bool) → Counts (wire_fails (Bound text done)) f g → Step (machine_meaning r w f ps) (OnWire (Bound text done)) (machine_meaning r w g ps)
@@ -74,12 +75,12 @@ not_joined r w f r' w' g ps qs text done fails er ew eq h = rw (fails, er, ew, e
 pub offered : (r w f : ℕ) (ps : List Peer) (parcel : Parcel) → Step (machine_meaning r w f ps) (OnWire (Offered parcel Sent)) (machine_meaning r w f ps)
 offered r w f ps parcel = on_wire r w f f ps ps (Offered parcel Sent) (record { inbound = refl; received = refl; sent = tt; replies = tt; bound = refl; joined = refl; peers = omega arith; faults = omega arith; peer_faults = λ j. omega arith })
 
-pub delayed : (r w f : ℕ) (ps : List Peer) (parcel : Parcel) → Step (machine_meaning r w f ps) (OnWire (Offered parcel Busy)) (machine_meaning r w f ps)
-delayed r w f ps parcel = on_wire r w f f ps ps (Offered parcel Busy) (record { inbound = refl; received = refl; sent = tt; replies = tt; bound = refl; joined = refl; peers = omega arith; faults = omega arith; peer_faults = λ j. omega arith })
+pub delayed : (r w f : ℕ) (ps : List Peer) (parcel : Parcel) → Step (machine_meaning r w f ps) (OnWire (Offered parcel NotReady)) (machine_meaning r w f ps)
+delayed r w f ps parcel = on_wire r w f f ps ps (Offered parcel NotReady) (record { inbound = refl; received = refl; sent = tt; replies = tt; bound = refl; joined = refl; peers = omega arith; faults = omega arith; peer_faults = λ j. omega arith })
 
 -- a send that failed counts for its peer
-pub broken : (r w f : ℕ) (ps qs : List Peer) (parcel : Parcel) → length qs ≡ length ps → ((j : ℕ) → Counts (parcel.peer == j) (faults_at ps j) (faults_at qs j)) → Step (machine_meaning r w f ps) (OnWire (Offered parcel Broken)) (machine_meaning r w f qs)
-broken r w f ps qs parcel same h = on_wire r w f f ps qs (Offered parcel Broken) (record { inbound = refl; received = refl; sent = tt; replies = tt; bound = refl; joined = refl; peers = omega (arith, same); faults = omega arith; peer_faults = h })
+pub broken : (r w f : ℕ) (ps qs : List Peer) (parcel : Parcel) → length qs ≡ length ps → ((j : ℕ) → Counts (parcel.peer == j) (faults_at ps j) (faults_at qs j)) → Step (machine_meaning r w f ps) (OnWire (Offered parcel Failed)) (machine_meaning r w f qs)
+broken r w f ps qs parcel same h = on_wire r w f f ps qs (Offered parcel Failed) (record { inbound = refl; received = refl; sent = tt; replies = tt; bound = refl; joined = refl; peers = omega (arith, same); faults = omega arith; peer_faults = h })
 
 -- the faults of one peer change, and those of no other
 same_peer : (ps : List Peer) (j : ℕ) (q : Peer) → j < length ps → faults_at (slice_set ps j q) j ≡ q.faults

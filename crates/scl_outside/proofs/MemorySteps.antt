@@ -1,7 +1,8 @@
 -- What each call does to what an object in memory tells.
 use Rattle.std.proofs.Common.{◌≡◌, ◌≤◌, ℕ, Bool, true, List, [], ◌∷◌, Option, length, length-take-le, refl, sym, ◌∙◌, ap, subst, arith}
-use Rattle.wire_model.specs.Link.{Reception, Arrived, LinkAnswer}
-use Rattle.wire_model.specs.Link as link
+use Rattle.wire_model.specs.Receptions.{Reception, Arrived}
+use Rattle.wire_model.specs.LinkAnswers.{LinkAnswer}
+use Rattle.wire_model.specs.Receptions as receptions
 use Rattle.wire_model.specs.Bytes.{IsBytes}
 use Rattle.scl_outside.specs.Meaning.{Meaning, Wire}
 use Rattle.scl_outside.specs.Events.{OnWire, Received, IsCall, asks, taken_by, written_by, noted_by, wire_by, read_fails, write_fails}
@@ -100,19 +101,19 @@ received o p q r h step =
 
 pub receives : (o p : OutsideMem) (q : WireMem) (result : RecvOut) (buf : List ℕ) (r : Reception) → MarksOutside o p → IsReception result buf r → WireStep (wire_of o.wire) (Received r) (wire_of q)
     → Receives (outside_meaning o) result buf (record (meaning_of p.duct) { wire = wire_of q })
-receives o p q (got.Got n) buf (link.Arrived d) h is step = (d, is, received o p q (link.Arrived d) h step)
-receives o p q (got.Got n) buf link.NotReady h is step = absurd is
-receives o p q (got.Got n) buf link.Closed h is step = absurd is
-receives o p q (got.Got n) buf link.Failed h is step = absurd is
-receives o p q got.NotReady buf link.NotReady h is step = received o p q link.NotReady h step
-receives o p q got.NotReady buf (link.Arrived d) h is step = absurd is
-receives o p q got.NotReady buf link.Closed h is step = absurd is
-receives o p q got.NotReady buf link.Failed h is step = absurd is
-receives o p q got.Closed buf link.Closed h is step = received o p q link.Closed h step
-receives o p q got.Closed buf (link.Arrived d) h is step = absurd is
-receives o p q got.Closed buf link.NotReady h is step = absurd is
-receives o p q got.Closed buf link.Failed h is step = absurd is
-receives o p q got.Failed buf link.Failed h is step = received o p q link.Failed h step
-receives o p q got.Failed buf (link.Arrived d) h is step = absurd is
-receives o p q got.Failed buf link.NotReady h is step = absurd is
-receives o p q got.Failed buf link.Closed h is step = absurd is
+receives o p q (got.Got n) buf (receptions.Arrived d) h is step = (d, is, received o p q (receptions.Arrived d) h step)
+receives o p q (got.Got n) buf receptions.NotReady h is step = absurd is
+receives o p q (got.Got n) buf receptions.Closed h is step = absurd is
+receives o p q (got.Got n) buf receptions.Failed h is step = absurd is
+receives o p q got.NotReady buf receptions.NotReady h is step = received o p q receptions.NotReady h step
+receives o p q got.NotReady buf (receptions.Arrived d) h is step = absurd is
+receives o p q got.NotReady buf receptions.Closed h is step = absurd is
+receives o p q got.NotReady buf receptions.Failed h is step = absurd is
+receives o p q got.Closed buf receptions.Closed h is step = received o p q receptions.Closed h step
+receives o p q got.Closed buf (receptions.Arrived d) h is step = absurd is
+receives o p q got.Closed buf receptions.NotReady h is step = absurd is
+receives o p q got.Closed buf receptions.Failed h is step = absurd is
+receives o p q got.Failed buf receptions.Failed h is step = received o p q receptions.Failed h step
+receives o p q got.Failed buf (receptions.Arrived d) h is step = absurd is
+receives o p q got.Failed buf receptions.NotReady h is step = absurd is
+receives o p q got.Failed buf receptions.Closed h is step = absurd is

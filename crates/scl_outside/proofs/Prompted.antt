@@ -5,7 +5,8 @@ use Rattle.std.specs.List.{AllByRecursion, flat_map}
 use Rattle.std.proofs.lemmas.List.{append-nil, take_at, drop_at}
 use Rattle.std.proofs.lemmas.List.Concat.{flat_map-append}
 use Rattle.wire_model.specs.Causes.{Grew}
-use Rattle.wire_model.specs.Link.{Reception, Sent, Busy, Broken}
+use Rattle.wire_model.specs.Receptions.{Reception}
+use Rattle.wire_model.specs.LinkAnswers.{Sent, NotReady, Failed}
 use Rattle.scl_outside.specs.Meaning.{Meaning, Wire, Parcel}
 use Rattle.scl_outside.specs.Events.{Event, WireEvent, Received, Offered, Bound, Joined, asks, datagram_in, received_by, arrivals_by, sent_by, parcels_by}
 use Rattle.scl_outside.specs.Steps.{Marks, IsMarkOf, Moves, datagrams_of, WireTrace}
@@ -36,8 +37,8 @@ arrived s t (w ∷ ws) (m, step, rest) =
 one_sent : (w : WireEvent) (o p : Option (List Parcel)) → Moves o p (sent_by w) → Grew o p (parcels_by w)
 one_sent (Received r) o p h = grew_same o p h
 one_sent (Offered parcel Sent) o p h = h
-one_sent (Offered parcel Busy) o p h = h
-one_sent (Offered parcel Broken) o p h = h
+one_sent (Offered parcel NotReady) o p h = h
+one_sent (Offered parcel Failed) o p h = h
 one_sent (Bound text done) o p h = grew_same o p h
 one_sent (Joined text done) o p h = grew_same o p h
 

@@ -6,7 +6,7 @@ use Rattle.std.proofs.lemmas.List.{map-append, length-map, append-nil}
 use Rattle.std.proofs.lemmas.Option.{slice_get_read}
 use Rattle.std.proofs.lemmas.List.Concat.{flat_map-append}
 use Rattle.std.proofs.lemmas.Bool.Decides.{nat_tests}
-use Rattle.wire_model.specs.Link.{Reception, Arrived, NotReady, Closed, Failed}
+use Rattle.wire_model.specs.Receptions.{Reception, Arrived, NotReady, Closed, Failed}
 use Rattle.scl_outside.specs.Events.{datagram_in}
 use Rattle.scl_outside.specs.Record.{told_of, room_of, with_room}
 use Rattle.scl_outside.specs.Inbound.{IsCount, first_of, reception_of, bytes_of, recorded, received_in}

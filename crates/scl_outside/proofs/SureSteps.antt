@@ -2,8 +2,8 @@
 use Rattle.std.proofs.Common.{◌≡◌, ◌≤◌, ℕ, Bool, true, false, List, [], ◌∷◌, Option, Some, None, length, refl, sym, subst, arith}
 use Rattle.std.specs.Prelude.{Contains}
 use Rattle.std.proofs.lemmas.Grind.{common_steps}
-use Rattle.wire_model.specs.Link.{Reception}
-use Rattle.wire_model.specs.Link as link
+use Rattle.wire_model.specs.Receptions.{Reception}
+use Rattle.wire_model.specs.Receptions as receptions
 use Rattle.scl_outside.specs.Meaning.{Meaning, Wire, Parcel}
 use Rattle.scl_outside.specs.Events.{Event, WireEvent, OnWire, Received, Bound, Joined, Offered, asks, wire_by, read_fails, write_fails, wire_fails, peer_fails}
 use Rattle.scl_outside.specs.Steps.{Step, WireTrace, KeepsWire, Marks, Counts}
@@ -118,7 +118,7 @@ send_passes sending.Failed sending.NotReady true one e is = absurd (cc)
 send_passes sending.Failed sending.Failed true one e is = absurd (cc)
 
 -- a planned failure is read as not ready
-first_passes : (never_fails : Bool) (entries : List Inbound) → never_fails ≡ true → first_of never_fails entries ≡ link.Failed → ⊥
+first_passes : (never_fails : Bool) (entries : List Inbound) → never_fails ≡ true → first_of never_fails entries ≡ receptions.Failed → ⊥
 first_passes false entries e is = absurd (cc)
 first_passes true [] e is = absurd (cc)
 first_passes true (planned.Datagram d ∷ rest) e is = absurd (cc)
@@ -126,14 +126,14 @@ first_passes true (planned.NotReady ∷ rest) e is = absurd (cc)
 first_passes true (planned.Closed ∷ rest) e is = absurd (cc)
 first_passes true (planned.Failed ∷ rest) e is = absurd (cc)
 
-failed_is : (buf : List ℕ) (r : Reception) → IsReception got.Failed buf r → r ≡ link.Failed
-failed_is buf (link.Arrived d) h = absurd h
-failed_is buf link.NotReady h = absurd h
-failed_is buf link.Closed h = absurd h
-failed_is buf link.Failed h = refl
+failed_is : (buf : List ℕ) (r : Reception) → IsReception got.Failed buf r → r ≡ receptions.Failed
+failed_is buf (receptions.Arrived d) h = absurd h
+failed_is buf receptions.NotReady h = absurd h
+failed_is buf receptions.Closed h = absurd h
+failed_is buf receptions.Failed h = refl
 
 pub sure_recv : (s t : Meaning) (r : RecvOut) (buf : List ℕ) (never_fails : Bool) (entries : List Inbound) → never_fails ≡ true → IsReception r buf (first_of never_fails entries) → Receives s r buf t → Receives (without_faults s) r buf (without_faults t)
-sure_recv s t (got.Got n) buf never_fails entries e is (d, front, step) = (d, front, sure_step s t (OnWire (Received (link.Arrived d))) (refl, refl, (refl, λ peer. refl, tt)) step)
-sure_recv s t got.NotReady buf never_fails entries e is step = sure_step s t (OnWire (Received link.NotReady)) (refl, refl, (refl, λ peer. refl, tt)) step
-sure_recv s t got.Closed buf never_fails entries e is step = sure_step s t (OnWire (Received link.Closed)) (refl, refl, (refl, λ peer. refl, tt)) step
+sure_recv s t (got.Got n) buf never_fails entries e is (d, front, step) = (d, front, sure_step s t (OnWire (Received (receptions.Arrived d))) (refl, refl, (refl, λ peer. refl, tt)) step)
+sure_recv s t got.NotReady buf never_fails entries e is step = sure_step s t (OnWire (Received receptions.NotReady)) (refl, refl, (refl, λ peer. refl, tt)) step
+sure_recv s t got.Closed buf never_fails entries e is step = sure_step s t (OnWire (Received receptions.Closed)) (refl, refl, (refl, λ peer. refl, tt)) step
 sure_recv s t got.Failed buf never_fails entries e is step = absurd (first_passes never_fails entries e (failed_is buf (first_of never_fails entries) is))

@@ -5,8 +5,9 @@ use Rattle.std.proofs.lemmas.Bool.Decides.{eqb_tells}
 use Rattle.std.proofs.lemmas.List.{append-nil}
 use Rattle.std.proofs.Common.{get_or-set_other, get_or-set_same, inl, inr, ◌⊎◌}
 use Rattle.wire_model.specs.Causes.{Grew, Rose}
-use Rattle.wire_model.specs.Link.{Reception, Arrived, LinkAnswer}
-use Rattle.wire_model.specs.Link as link
+use Rattle.wire_model.specs.Receptions.{Reception, Arrived}
+use Rattle.wire_model.specs.LinkAnswers.{LinkAnswer}
+use Rattle.wire_model.specs.Receptions as receptions
 use Rattle.scl_outside.specs.Meaning.{Parcel}
 use Rattle.scl_outside.specs.Events.{Bound, Joined, Offered, Received, arrived_by, sent_by, bound_by, joined_by, peers_by, wire_fails, peer_fails}
 use Rattle.scl_outside.specs.Steps.{WireStep, Moves, Loses, Counts}
@@ -44,22 +45,22 @@ left_step false (planned.Failed ∷ rest) = refl
 
 -- a call for a datagram fails as it answers
 fails_as : (result : RecvOut) (buf : List ℕ) (r : Reception) → IsReception result buf r → recv_fails result ≡ wire_fails (Received r)
-fails_as (got.Got n) buf (link.Arrived d) h = refl
-fails_as (got.Got n) buf link.NotReady h = absurd h
-fails_as (got.Got n) buf link.Closed h = absurd h
-fails_as (got.Got n) buf link.Failed h = absurd h
-fails_as got.NotReady buf link.NotReady h = refl
-fails_as got.NotReady buf (link.Arrived d) h = absurd h
-fails_as got.NotReady buf link.Closed h = absurd h
-fails_as got.NotReady buf link.Failed h = absurd h
-fails_as got.Closed buf link.Closed h = refl
-fails_as got.Closed buf (link.Arrived d) h = absurd h
-fails_as got.Closed buf link.NotReady h = absurd h
-fails_as got.Closed buf link.Failed h = absurd h
-fails_as got.Failed buf link.Failed h = refl
-fails_as got.Failed buf (link.Arrived d) h = absurd h
-fails_as got.Failed buf link.NotReady h = absurd h
-fails_as got.Failed buf link.Closed h = absurd h
+fails_as (got.Got n) buf (receptions.Arrived d) h = refl
+fails_as (got.Got n) buf receptions.NotReady h = absurd h
+fails_as (got.Got n) buf receptions.Closed h = absurd h
+fails_as (got.Got n) buf receptions.Failed h = absurd h
+fails_as got.NotReady buf receptions.NotReady h = refl
+fails_as got.NotReady buf (receptions.Arrived d) h = absurd h
+fails_as got.NotReady buf receptions.Closed h = absurd h
+fails_as got.NotReady buf receptions.Failed h = absurd h
+fails_as got.Closed buf receptions.Closed h = refl
+fails_as got.Closed buf (receptions.Arrived d) h = absurd h
+fails_as got.Closed buf receptions.NotReady h = absurd h
+fails_as got.Closed buf receptions.Failed h = absurd h
+fails_as got.Failed buf receptions.Failed h = refl
+fails_as got.Failed buf (receptions.Arrived d) h = absurd h
+fails_as got.Failed buf receptions.NotReady h = absurd h
+fails_as got.Failed buf receptions.Closed h = absurd h
 
 count_stays : (was now : ℕ) → now ≡ was → was ≤ now
 count_stays was now e = omega arith

@@ -1,7 +1,7 @@
 -- What a list of calls did.
 use Rattle.std.specs.Prelude.{◌≡◌, ℕ, Bool, true, false, ◌||◌, List, [], ◌∷◌, ◌++◌}
 use Rattle.std.specs.List.{flat_map}
-use Rattle.wire_model.specs.Link.{Reception}
+use Rattle.wire_model.specs.Receptions.{Reception}
 use Rattle.scl_outside.specs.Meaning.{Parcel, Reply}
 use Rattle.scl_outside.specs.Events.{Event, WireEvent, Took, Ended, ReadFailed, Wrote, WriteFailed, Noted, OnWire, receptions_by, arrivals_by, parcels_by, answers_by, wire_fails, name_fails}
 

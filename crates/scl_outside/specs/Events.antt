@@ -1,7 +1,9 @@
 -- The calls of the outside, each as its caller sees it, with its answer.
 use Rattle.std.specs.Prelude.{◌≤◌, ℕ, Bool, true, false, List, [], ◌∷◌, length, Option, Some, None, ◌==◌}
 use Rattle.wire_model.specs.Bytes.{IsBytes}
-use Rattle.wire_model.specs.Link.{Reception, Arrived, Failed, LinkAnswer, Sent, Broken}
+use Rattle.wire_model.specs.Receptions.{Reception, Arrived, Failed}
+use Rattle.wire_model.specs.LinkAnswers.{LinkAnswer}
+use Rattle.wire_model.specs.LinkAnswers as link
 use Rattle.scl_outside.specs.Meaning.{Parcel, Reply}
 
 -- A call of the wire asks for a datagram, sends one to a peer, names the local address, or adds a peer.
@@ -91,7 +93,7 @@ received_by w = None
 
 -- A call to a peer sent this datagram, or none.
 abbrev pub sent_by : WireEvent → Option (List Parcel)
-sent_by (Offered parcel Sent) = Some (parcel ∷ [])
+sent_by (Offered parcel link.Sent) = Some (parcel ∷ [])
 sent_by (Offered parcel answer) = Some []
 sent_by w = None
 
@@ -136,7 +138,7 @@ arrivals_by w = []
 
 -- A call of the wire sends at most one datagram.
 abbrev pub parcels_by : WireEvent → List Parcel
-parcels_by (Offered parcel Sent) = parcel ∷ []
+parcels_by (Offered parcel link.Sent) = parcel ∷ []
 parcels_by w = []
 
 -- A call of the wire gets at most one answer of a link.
@@ -159,5 +161,5 @@ name_fails w = false
 
 -- A call to this peer failed.
 abbrev pub peer_fails : ℕ → WireEvent → Bool
-peer_fails peer (Offered parcel Broken) = parcel.peer == peer
+peer_fails peer (Offered parcel link.Failed) = parcel.peer == peer
 peer_fails peer w = false

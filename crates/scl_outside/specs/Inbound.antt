@@ -1,7 +1,7 @@
 -- What is planned to come to an object in memory, and what its calls for a datagram answered.
 use Rattle.std.specs.Prelude.{◌≡◌, ℕ, Bool, true, false, List, [], ◌∷◌, Option, Some, IfSome, length, map, option_map, slice_get, flat_map}
-use Rattle.wire_model.specs.Link.{Reception}
-use Rattle.wire_model.specs.Link as link
+use Rattle.wire_model.specs.Receptions.{Reception}
+use Rattle.wire_model.specs.Receptions as receptions
 use Rattle.scl_outside.specs.Steps.{datagrams_of}
 use Rattle.scl_outside.specs.Record.{told_of}
 use Rattle.scl_outside.specs.declared.inbox.Inbound.{Inbound}
@@ -12,16 +12,16 @@ use Rattle.scl_outside.specs.declared.record.Record.{Record}
 
 -- This is what a planned entry answers. Where nothing fails, a planned failure is read as not ready.
 abbrev pub reception_of : Bool → Inbound → Reception
-reception_of never_fails (Datagram d) = link.Arrived d.items
-reception_of never_fails NotReady = link.NotReady
-reception_of never_fails Closed = link.Closed
-reception_of true Failed = link.NotReady
-reception_of false Failed = link.Failed
+reception_of never_fails (Datagram d) = receptions.Arrived d.items
+reception_of never_fails NotReady = receptions.NotReady
+reception_of never_fails Closed = receptions.Closed
+reception_of true Failed = receptions.NotReady
+reception_of false Failed = receptions.Failed
 
 -- With these entries left, the next call answers what the first one plans. After the last entry it is not
 -- ready.
 abbrev pub first_of : Bool → List Inbound → Reception
-first_of never_fails [] = link.NotReady
+first_of never_fails [] = receptions.NotReady
 first_of never_fails (entry ∷ rest) = reception_of never_fails entry
 
 -- These entries are left after that call. It stays at an entry that closes.
@@ -48,10 +48,10 @@ bytes_of entry = []
 
 -- An answer was recorded so: a datagram by its index among the entries.
 abbrev pub recorded : List Inbound → Answer → Reception
-recorded entries (answer.Arrived index) = link.Arrived (bytes_of (slice_get entries index))
-recorded entries answer.NotReady = link.NotReady
-recorded entries answer.Closed = link.Closed
-recorded entries answer.Failed = link.Failed
+recorded entries (answer.Arrived index) = receptions.Arrived (bytes_of (slice_get entries index))
+recorded entries answer.NotReady = receptions.NotReady
+recorded entries answer.Closed = receptions.Closed
+recorded entries answer.Failed = receptions.Failed
 
 -- This is the number of datagrams among answers, where these are told.
 abbrev pub IsCount : ℕ → Option (List Reception) → Type 0

@@ -1,7 +1,7 @@
 -- The way in of a wire in memory.
 use Rattle.std.specs.Prelude.{◌≡◌, ℕ, Bool, true, false, List, [], ◌∷◌, Option, drop}
-use Rattle.wire_model.specs.Link.{Reception}
-use Rattle.wire_model.specs.Link as link
+use Rattle.wire_model.specs.Receptions.{Reception}
+use Rattle.wire_model.specs.Receptions as receptions
 use Rattle.scl_outside.specs.Record.{room_of, with_room}
 use Rattle.scl_outside.specs.Inbound.{first_of, after_first, datagrams_in, received_in}
 use Rattle.scl_outside.specs.WireAnswers.{IsAtFront}
@@ -32,10 +32,10 @@ received_after i reception = with_room (room_of i.answers) (received_of i) (rece
 
 -- A call answered this reception, with the datagram at the buffer's front.
 abbrev pub IsReception : RecvOut → List ℕ → Reception → Type 0
-IsReception (got.Got n) buf (link.Arrived d) = IsAtFront d n buf
-IsReception got.NotReady buf link.NotReady = Unit {0}
-IsReception got.Closed buf link.Closed = Unit {0}
-IsReception got.Failed buf link.Failed = Unit {0}
+IsReception (got.Got n) buf (receptions.Arrived d) = IsAtFront d n buf
+IsReception got.NotReady buf receptions.NotReady = Unit {0}
+IsReception got.Closed buf receptions.Closed = Unit {0}
+IsReception got.Failed buf receptions.Failed = Unit {0}
 IsReception result buf reception = ⊥
 
 -- A call for a datagram failed.

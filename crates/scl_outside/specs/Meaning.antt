@@ -1,7 +1,8 @@
 -- What an object of the outside tells of itself: each list only where the object can tell it, the counts
 -- always.
 use Rattle.std.specs.Prelude.{ℕ, List, [], Option, Some, None}
-use Rattle.wire_model.specs.Link.{Reception, LinkAnswer}
+use Rattle.wire_model.specs.Receptions.{Reception}
+use Rattle.wire_model.specs.LinkAnswers.{LinkAnswer}
 use Rattle.scl_outside.specs.declared.duct.Mark.{Mark}
 
 -- A parcel is a datagram with the number of its peer.

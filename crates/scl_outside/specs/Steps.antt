@@ -2,7 +2,7 @@
 use Rattle.std.specs.Prelude.{◌≡◌, ◌≤◌, ◌+◌, ℕ, Bool, true, false, List, [], ◌∷◌, length, Option, Some, None, IfSome, MatchBool}
 use Rattle.std.specs.List.{flat_map}
 use Rattle.wire_model.specs.Causes.{Rose, Grew, Fell}
-use Rattle.wire_model.specs.Link.{Reception}
+use Rattle.wire_model.specs.Receptions.{Reception}
 use Rattle.scl_outside.specs.Meaning.{Meaning, Wire}
 use Rattle.scl_outside.specs.Events.{Event, WireEvent, IsCall, datagram_in, taken_by, written_by, noted_by, wire_by, asks, is_end, read_fails, write_fails, arrived_by, received_by, sent_by, replies_by, bound_by, joined_by, peers_by, wire_fails, peer_fails}
 use Rattle.scl_outside.specs.declared.duct.Mark.{Mark}

@@ -1,7 +1,9 @@
 -- What the answers of the wire say.
 use Rattle.std.specs.Prelude.{◌≡◌, ◌≤◌, ℕ, Bool, true, false, List, take, length, min}
-use Rattle.wire_model.specs.Link.{LinkAnswer, Arrived}
-use Rattle.wire_model.specs.Link as link
+use Rattle.wire_model.specs.Receptions.{Arrived}
+use Rattle.wire_model.specs.LinkAnswers.{LinkAnswer}
+use Rattle.wire_model.specs.Receptions as receptions
+use Rattle.wire_model.specs.LinkAnswers as link
 use Rattle.scl_outside.specs.Meaning.{Meaning, Parcel}
 use Rattle.scl_outside.specs.Events.{OnWire, Received}
 use Rattle.scl_outside.specs.Events as events
@@ -31,15 +33,15 @@ pub record IsAtFront (d : List ℕ) (n : ℕ) (buf : List ℕ) : Type 0 where
 -- A call for a datagram with this answer, and this buffer after it, is this step.
 abbrev pub Receives : Meaning → RecvOut → List ℕ → Meaning → Type 0
 Receives s (got.Got n) buf t = (d : List ℕ) × IsAtFront d n buf × Step s (OnWire (Received (Arrived d))) t
-Receives s got.NotReady buf t = Step s (OnWire (Received link.NotReady)) t
-Receives s got.Closed buf t = Step s (OnWire (Received link.Closed)) t
-Receives s got.Failed buf t = Step s (OnWire (Received link.Failed)) t
+Receives s got.NotReady buf t = Step s (OnWire (Received receptions.NotReady)) t
+Receives s got.Closed buf t = Step s (OnWire (Received receptions.Closed)) t
+Receives s got.Failed buf t = Step s (OnWire (Received receptions.Failed)) t
 
 -- A peer's link answers so.
 abbrev pub answer_of : SendOut → LinkAnswer
 answer_of sent.Sent = link.Sent
-answer_of sent.NotReady = link.Busy
-answer_of sent.Failed = link.Broken
+answer_of sent.NotReady = link.NotReady
+answer_of sent.Failed = link.Failed
 
 -- These bytes are a parcel for this peer.
 abbrev pub parcel : ℕ → List ℕ → Parcel

@@ -1,6 +1,6 @@
 -- What a command is to do.
 use Rattle.std.specs.Prelude.{◌≡◌, ℕ, Bool, List, []}
-use Rattle.wire_model.specs.Link.{Reception}
+use Rattle.wire_model.specs.Receptions.{Reception}
 use Rattle.scl_outside.specs.Meaning.{Reply, Parcel}
 use Rattle.scl_outside.specs.Events.{WireEvent}
 use Rattle.scl_outside.specs.Effects.{Effects, receptions, answers}

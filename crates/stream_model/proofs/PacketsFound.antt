@@ -12,7 +12,7 @@ use Rattle.codestream_model.specs.PacketHeaderReading.{HeaderReading, Done, Need
 use Rattle.codestream_model.specs.Packet.{Content, HasFewBlocks, block_count, segment_bytes, SpellsPacket, BeginsPacket, NeedsPacketBytes}
 use Rattle.codestream_model.proofs.OwnBands.{own_bands}
 use Rattle.stream_model.specs.Decoder.{Found, Whole, Part, Other, found_segments, found_header, found_packet}
-use Rattle.stream_model.specs.CommandLaws.{BeginsWithPacket}
+use Rattle.codestream_model.specs.ItemLaws.{BeginsWithPacket}
 use Rattle.stream_model.specs.ReceiverLaws.{FoundIs, FoundIsWhatStands}
 use Rattle.stream_model.proofs.Found.{packet_has_bytes}
 

@@ -21,7 +21,8 @@ use Rattle.codestream_model.proofs.SegmentBytes.{bytes-take}
 use Rattle.codestream_model.proofs.OwnBands.{own_bands}
 use Rattle.stream_model.specs.Report.{Precinct, lines}
 use Rattle.stream_model.specs.Commands.{counted, parsed}
-use Rattle.stream_model.specs.CommandLaws.{precincts_of, stamp_of, Said, AreCodestreams, precincts_from, BeginsWithHead, BeginsWithPacket, BeginsWithEoc, ArePrecinctsOf, ArePrecinctsBehind, ParseWritesWholePackets, ParseWritesInputs, ParseWritesUpToFault}
+use Rattle.stream_model.specs.CommandLaws.{precincts_of, stamp_of, Said, AreCodestreams, precincts_from, BeginsWithHead, ArePrecinctsOf, ArePrecinctsBehind, ParseWritesWholePackets, ParseWritesInputs, ParseWritesUpToFault}
+use Rattle.codestream_model.specs.ItemLaws.{BeginsWithPacket, BeginsWithEoc}
 use Rattle.stream_model.proofs.ParsedPackets.{bytes_behind, codestream_long, head_long, parsed_codestreams, parsed_rest}
 
 -- codestreams are shorter in number than in bytes

@@ -24,7 +24,8 @@ use Rattle.codestream_model.proofs.BytesLemmas.{bytes_front}
 use Rattle.stream_model.specs.Report.{Precinct}
 use Rattle.stream_model.specs.Decoder.{Found, Whole, Part, Other, found_packet}
 use Rattle.stream_model.specs.Commands.{Walked, stopped, is_end, with_precinct, walk, walk_behind, parsed}
-use Rattle.stream_model.specs.CommandLaws.{precincts_of, stamp_of, Said, AreCodestreams, precincts_from, BeginsWithHead, BeginsWithEoc, LacksNext, ArePrecinctsOf}
+use Rattle.stream_model.specs.CommandLaws.{precincts_of, stamp_of, Said, AreCodestreams, precincts_from, BeginsWithHead, LacksNext, ArePrecinctsOf}
+use Rattle.codestream_model.specs.ItemLaws.{BeginsWithEoc}
 use Rattle.stream_model.proofs.PacketsFound.{packet_found, segments_taken, found_sound}
 
 -- a walk that has found these precincts before

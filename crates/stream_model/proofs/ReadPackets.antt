@@ -21,7 +21,8 @@ use Rattle.codestream_model.proofs.SegmentBytes.{bytes-take}
 use Rattle.stream_model.specs.Report.{Precinct}
 use Rattle.stream_model.specs.Decoder.{Found, Whole, Part, Other, found_packet}
 use Rattle.stream_model.specs.Commands.{counted, is_end}
-use Rattle.stream_model.specs.CommandLaws.{precincts_of, stamp_of, Said, AreCodestreams, BeginsWithPacket, BeginsWithEoc, LacksNext, ArePrecinctsOf, ArePrecinctsBehind, ReadsHaveWholePackets}
+use Rattle.stream_model.specs.CommandLaws.{precincts_of, stamp_of, Said, AreCodestreams, LacksNext, ArePrecinctsOf, ArePrecinctsBehind, ReadsHaveWholePackets}
+use Rattle.codestream_model.specs.ItemLaws.{BeginsWithPacket, BeginsWithEoc}
 use Rattle.stream_model.proofs.PacketsFound.{packet_found, found_sound}
 use Rattle.stream_model.proofs.ParsedPackets.{end_there, end_tested, bytes_behind}
 

@@ -5,8 +5,9 @@ use Rattle.codestream_model.specs.Values.{Head, Place}
 use Rattle.codestream_model.specs.Bytes.{IsBytes}
 use Rattle.codestream_model.specs.MainHeader.{SpellsHead}
 use Rattle.codestream_model.specs.PacketOrder.{pid, packet_order}
-use Rattle.codestream_model.specs.Packet.{Content, SpellsPacket}
-use Rattle.codestream_model.specs.Codestream.{WalkRefusal, SpellsCodestream, IsPsotRight, BeginsCodestream, IsInput, Faults, joined}
+use Rattle.codestream_model.specs.Packet.{Content}
+use Rattle.codestream_model.specs.Codestream.{WalkRefusal, SpellsCodestream, BeginsCodestream, IsInput, Faults, joined}
+use Rattle.codestream_model.specs.ItemLaws.{BeginsWithPacket, BeginsWithEoc}
 use Rattle.stream_model.specs.Report.{Precinct, lines}
 use Rattle.stream_model.specs.Commands.{counted, parse_lines}
 
@@ -37,14 +38,6 @@ precincts_from stamp step i (x ∷ said) = precincts_of x.head (stamp_of stamp s
 -- the bytes begin with an accepted main header
 abbrev pub BeginsWithHead : List ℕ → Type 0
 BeginsWithHead bytes = (h : Head) × (head : List ℕ) × (more : List ℕ) × SpellsHead h head × (bytes ≡ head ++ more)
-
--- the bytes begin with a packet of a precinct
-abbrev pub BeginsWithPacket : Head → Place → List ℕ → Type 0
-BeginsWithPacket h p bytes = (x : Content) × (packet : List ℕ) × (more : List ℕ) × SpellsPacket h p x packet × (bytes ≡ packet ++ more)
-
--- EOC stands at this place of a codestream, as Psot has it, and these are the bytes from it on
-abbrev pub BeginsWithEoc : Head → ℕ → List ℕ → Type 0
-BeginsWithEoc h at bytes = IsPsotRight h at × ((more : List ℕ) × (bytes ≡ 255 ∷ 217 ∷ more))
 
 -- what should follow the packets isn't there: the packet of the next precinct, or EOC
 abbrev pub LacksNext : Head → List Place → ℕ → List ℕ → Type 0

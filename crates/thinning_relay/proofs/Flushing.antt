@@ -6,8 +6,8 @@ use Rattle.std.proofs.lemmas.List.Concat.{flat_map-append}
 use Rattle.std.proofs.lemmas.Bool.{ne_eqb, eq-eqb}
 use Rattle.std.proofs.lemmas.Bool.Decides.{eqb_tells, nat_tests}
 use Rattle.std.proofs.lemmas.Option.{slice_get_within}
-use Rattle.wire_model.specs.Link.{LinkAnswer, Sent, Busy, Broken}
-use Rattle.relay_model.specs.Relays.{busy_count}
+use Rattle.wire_model.specs.LinkAnswers.{LinkAnswer, Sent, NotReady, Failed}
+use Rattle.relay_model.specs.Relays.{not_ready_count}
 use Rattle.scl_outside.specs.Meaning.{Meaning, Parcel, Reply}
 use Rattle.scl_outside.specs.Events.{WireEvent, answers_by, parcels_by}
 use Rattle.scl_outside.specs.Effects.{answers, parcels}
@@ -15,7 +15,7 @@ use Rattle.scl_outside.specs.Traces.{Trace}
 use Rattle.scl_outside.proofs.Traces.{trace_join}
 use Rattle.scl_outside.specs.Events.{Offered, Received, Bound, Joined}
 use Rattle.polled_datagrams.specs.Offers.{on_wire, offers, answers_to, sent_to, replies_of, parcels_of}
-use Rattle.polled_datagrams.proofs.Polling.{on_wire-append, answers_own, broken_counts}
+use Rattle.polled_datagrams.proofs.Polling.{on_wire-append, answers_own, failure_counts}
 use Rattle.thinning_relay.specs.Receivers.{Served, FlushesOne, any_moved, queued}
 use Rattle.thinning_relay.specs.Numbered.{AreNumbered}
 use Rattle.thinning_relay.specs.Flushing.{FlushesAll, links, offers_in_order}
@@ -84,8 +84,8 @@ links_own j (a ∷ given) = ap (λ (l : List LinkAnswer). a ∷ l) (links_own j 
 pub moved-append : (xs ys : List LinkAnswer) → any_moved (xs ++ ys) ≡ (any_moved xs || any_moved ys)
 moved-append [] ys = refl
 moved-append (Sent ∷ xs) ys = refl
-moved-append (Broken ∷ xs) ys = refl
-moved-append (Busy ∷ xs) ys = moved-append xs ys
+moved-append (Failed ∷ xs) ys = refl
+moved-append (NotReady ∷ xs) ys = moved-append xs ys
 
 -- each of these calls offers a datagram to a peer below this one
 abbrev is_below : ℕ → List WireEvent → Bool
@@ -146,15 +146,15 @@ offers_ordered : (peer : ℕ) (q : List (List ℕ)) (given : List LinkAnswer) �
 offers_ordered peer [] given = refl
 offers_ordered peer (d ∷ q) [] = refl
 offers_ordered peer (d ∷ q) (Sent ∷ given) = rw (least_is peer peer (omega arith)) (offers_ordered peer q given)
-offers_ordered peer (d ∷ q) (Broken ∷ given) = rw (least_is peer peer (omega arith)) (offers_ordered peer q given)
-offers_ordered peer (d ∷ q) (Busy ∷ given) = rw (least_is peer peer (omega arith)) refl
+offers_ordered peer (d ∷ q) (Failed ∷ given) = rw (least_is peer peer (omega arith)) (offers_ordered peer q given)
+offers_ordered peer (d ∷ q) (NotReady ∷ given) = rw (least_is peer peer (omega arith)) refl
 
 offers_below : (peer : ℕ) (q : List (List ℕ)) (given : List LinkAnswer) → is_below (peer + 1) (offers peer q given) ≡ true
 offers_below peer [] given = refl
 offers_below peer (d ∷ q) [] = refl
 offers_below peer (d ∷ q) (Sent ∷ given) = rw (less_is peer (peer + 1) (omega arith)) (offers_below peer q given)
-offers_below peer (d ∷ q) (Broken ∷ given) = rw (less_is peer (peer + 1) (omega arith)) (offers_below peer q given)
-offers_below peer (d ∷ q) (Busy ∷ given) = rw (less_is peer (peer + 1) (omega arith)) refl
+offers_below peer (d ∷ q) (Failed ∷ given) = rw (less_is peer (peer + 1) (omega arith)) (offers_below peer q given)
+offers_below peer (d ∷ q) (NotReady ∷ given) = rw (less_is peer (peer + 1) (omega arith)) refl
 
 -- the first of the receivers were flushed, and the others weren't
 pub record Flushing (i : ℕ) (rs : List Receiver) (some : Bool) (qs : List Receiver) (s m : Meaning) : Type 0 where
@@ -276,7 +276,7 @@ flushed rs qs moved s m size f = record {
   wire = f.wire;
   trace = f.trace;
   order = f.order;
-  causes = λ j. broken_counts j s m f.wire f.trace;
+  causes = λ j. failure_counts j s m f.wire f.trace;
   count = size;
   each = λ j r q h k. f.each j (slice_get_within rs j r h) r q h k;
   others = f.others;
@@ -285,14 +285,14 @@ flushed rs qs moved s m size f = record {
 }
 
 -- a datagram was sent or failed where not all answers were that the link wasn't ready
-busy_most : (given : List LinkAnswer) → busy_count given ≤ length given
-busy_most [] = omega arith
-busy_most (Busy ∷ given) = let e = busy_most given in omega arith
-busy_most (Sent ∷ given) = let e = busy_most given in omega arith
-busy_most (Broken ∷ given) = let e = busy_most given in omega arith
+not_ready_most : (given : List LinkAnswer) → not_ready_count given ≤ length given
+not_ready_most [] = omega arith
+not_ready_most (NotReady ∷ given) = let e = not_ready_most given in omega arith
+not_ready_most (Sent ∷ given) = let e = not_ready_most given in omega arith
+not_ready_most (Failed ∷ given) = let e = not_ready_most given in omega arith
 
-pub some_moved : (given : List LinkAnswer) (sent failed : ℕ) (b : Bool) → length given ≡ sent + failed + busy_count given → b ≡ nat_lt 0 (sent + failed) → b ≡ any_moved given
+pub some_moved : (given : List LinkAnswer) (sent failed : ℕ) (b : Bool) → length given ≡ sent + failed + not_ready_count given → b ≡ nat_lt 0 (sent + failed) → b ≡ any_moved given
 some_moved [] sent failed b e is = is ∙ grind (arith, nat_tests)
-some_moved (Busy ∷ given) sent failed b e is = some_moved given sent failed b (omega arith) is
-some_moved (Sent ∷ given) sent failed b e is = let most = busy_most given in is ∙ grind (arith, nat_tests)
-some_moved (Broken ∷ given) sent failed b e is = let most = busy_most given in is ∙ grind (arith, nat_tests)
+some_moved (NotReady ∷ given) sent failed b e is = some_moved given sent failed b (omega arith) is
+some_moved (Sent ∷ given) sent failed b e is = let most = not_ready_most given in is ∙ grind (arith, nat_tests)
+some_moved (Failed ∷ given) sent failed b e is = let most = not_ready_most given in is ∙ grind (arith, nat_tests)

@@ -2,7 +2,6 @@ pub mod Flushing
 pub mod Levels
 pub mod Loops
 pub mod Sharing
-pub mod Keeping
 pub mod Turning
 pub mod Turned
 pub mod Making

@@ -7,7 +7,7 @@ use Rattle.std.proofs.lemmas.Bool.Decides.{nat_tests}
 use Rattle.wire_model.specs.RtpReading.{is_rtp}
 use Rattle.wire_model.specs.PayloadReading.{is_payload}
 use Rattle.wire_model.specs.Datagram.{is_well_formed, rtp_payload, datagram_of}
-use Rattle.wire_model.specs.Link.{Reception, Arrived}
+use Rattle.wire_model.specs.Receptions.{Reception, Arrived}
 use Rattle.relay_model.specs.Relays.{given_by}
 use Rattle.scl_outside.specs.Meaning.{Meaning}
 use Rattle.scl_outside.specs.Events.{WireEvent, OnWire, Received}
@@ -26,7 +26,7 @@ use Rattle.thinning_relay.specs.declared.relay.Relay.{Relay}
 use Rattle.wire_model.specs.Thinning.{is_kept, is_within}
 use Rattle.polled_datagrams.specs.Sending.{depth_of}
 use Rattle.thinning_relay.specs.declared.relay.Received.TheVariants as which
-use Rattle.polled_datagrams.proofs.Polling.{broken_counts}
+use Rattle.polled_datagrams.proofs.Polling.{failure_counts}
 use Rattle.thinning_relay.proofs.Flushing.{get_at}
 use Rattle.thinning_relay.proofs.Turning.{turned_given}
 
@@ -85,7 +85,7 @@ relay_turned r m q got answer some s n t step peers counts p f is does = record 
   trace = (n, step, f.flushed.trace);
   does = does f.flushed.wire (turned_all got (receivers_of r) (receivers_of m) (receivers_of q) some n t answer p f.flushed is);
   counts = counts_stay r m q got counts f.received f.refused;
-  causes = λ j. broken_counts j s t (Received got ∷ f.flushed.wire) (n, step, f.flushed.trace);
+  causes = λ j. failure_counts j s t (Received got ∷ f.flushed.wire) (n, step, f.flushed.trace);
   peers = f.flushed.peers ∙ peers;
 }
 
@@ -223,7 +223,7 @@ turn_none r q s t h = record {
   trace = (t, h.step, refl);
   does = record { came = h.passes.0; nothing = refl; same = h.passes.1 };
   counts = h.counts;
-  causes = λ j. broken_counts j s t (Received h.got ∷ []) (t, h.step, refl);
+  causes = λ j. failure_counts j s t (Received h.got ∷ []) (t, h.step, refl);
   peers = h.peers;
 }
 

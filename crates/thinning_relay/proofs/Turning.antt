@@ -1,10 +1,10 @@
 -- One receiver in a turn: what came joins its queue, and its queue is polled.
 use Rattle.std.proofs.Common.{◌≡◌, ◌+◌, ◌++◌, ℕ, Bool, true, false, List, [], ◌∷◌, Option, Some, None, length, nat_lt, refl, sym, ◌∙◌, ap, add-zero, if◌then◌else◌}
-use Rattle.wire_model.specs.Link.{LinkAnswer}
+use Rattle.wire_model.specs.LinkAnswers.{LinkAnswer}
 use Rattle.wire_model.specs.Thinning.{is_kept}
 use Rattle.relay_model.specs.Queue.{Tale, poll, turn, join_queue}
 use Rattle.polled_datagrams.specs.Sending.{depth_of}
-use Rattle.relay_model.specs.Relays.{broken_count}
+use Rattle.relay_model.specs.Relays.{failure_count}
 use Rattle.thinning_relay.specs.Receivers.{queued, queue_after, missed, Served}
 use Rattle.thinning_relay.specs.Passing.{PassedOn, kept_of}
 use Rattle.thinning_relay.specs.Relaying.{ServedTurn}
@@ -38,7 +38,7 @@ turned_given given r m q took sent p v = record {
   share = kept_of r.limit given
 
   told : (x : Tale) (more : List LinkAnswer) → x.left ≡ queued r → turn r.limit (depth_of r.queue) (record { tale = x; answers = took ++ more }) given
-      ≡ record { tale = record { sent = x.sent ++ sent; lost = x.lost + missed (depth_of r.queue) share (queued r); failed = x.failed + broken_count took; left = queued q }; answers = more }
+      ≡ record { tale = record { sent = x.sent ++ sent; lost = x.lost + missed (depth_of r.queue) share (queued r); failed = x.failed + failure_count took; left = queued q }; answers = more }
   told x more e =
       let y : Tale = record x { left = queue_after (depth_of r.queue) share x.left; lost = x.lost + missed (depth_of r.queue) share x.left } in
       let z : Tale = record x { left = queued m; lost = x.lost + missed (depth_of r.queue) share (queued r) } in

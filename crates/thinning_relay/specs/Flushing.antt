@@ -1,7 +1,7 @@
 -- What all receivers of a relay do when they are flushed.
 use Rattle.std.specs.Prelude.{◌≡◌, ◌≤◌, ◌&&◌, ℕ, Bool, true, false, List, [], ◌∷◌, length, nat_le, nat_lt, Some, slice_get}
-use Rattle.wire_model.specs.Link.{LinkAnswer}
-use Rattle.relay_model.specs.Relays.{broken_count}
+use Rattle.wire_model.specs.LinkAnswers.{LinkAnswer}
+use Rattle.relay_model.specs.Relays.{failure_count}
 use Rattle.scl_outside.specs.Meaning.{Meaning, Reply}
 use Rattle.scl_outside.specs.Events.{WireEvent, Offered}
 use Rattle.scl_outside.specs.Steps.{Counts}
@@ -25,7 +25,7 @@ offers_in_order peer (w ∷ ws) = false
 -- Of calls of the wire, the link of each peer failed only where that peer's count of faults rose.
 abbrev pub HaveCauses : Meaning → List WireEvent → Meaning → Type 0
 HaveCauses s ws t = (j : ℕ)
-    → Counts (nat_lt 0 (broken_count (answers_to j (answers ws)))) (s.wire.peer_faults j) (t.wire.peer_faults j)
+    → Counts (nat_lt 0 (failure_count (answers_to j (answers ws)))) (s.wire.peer_faults j) (t.wire.peer_faults j)
 
 -- Calls to the receivers, in their order: each was served by the answers of its own link, whatever the
 -- others had.

@@ -1,9 +1,9 @@
 -- What one receiver of a relay does.
 use Rattle.std.specs.Prelude.{◌≡◌, ◌+◌, ◌-◌, ◌^◌, ◌++◌, ℕ, Bool, true, false, List, [], ◌∷◌, length, min, max, nat_lt, option_map, Option, Some, None, if◌then◌else◌}
 use Rattle.std.specs.Rc.{rc_slice_items}
-use Rattle.wire_model.specs.Link.{LinkAnswer, Busy}
+use Rattle.wire_model.specs.LinkAnswers.{LinkAnswer, NotReady}
 use Rattle.relay_model.specs.Queue.{Tale, poll}
-use Rattle.relay_model.specs.Relays.{broken_count}
+use Rattle.relay_model.specs.Relays.{failure_count}
 use Rattle.relay_model.specs.Laws.{IsSettled}
 use Rattle.scl_outside.specs.Meaning.{Meaning}
 use Rattle.scl_outside.specs.Events.{WireEvent}
@@ -54,19 +54,19 @@ pub record PutsShare (r q : Receiver) : Type 0 where
 pub record Served (r q : Receiver) (given : List LinkAnswer) (sent : List (List ℕ)) : Type 0 where
   pub told : (x : Tale) (more : List LinkAnswer) → poll x (queued r) (given ++ more)
       ≡ record {
-        tale = record x { sent = x.sent ++ sent; failed = x.failed + broken_count given; left = queued q };
+        tale = record x { sent = x.sent ++ sent; failed = x.failed + failure_count given; left = queued q };
         answers = more;
       }
   pub settled : IsSettled (queued q) given
   pub sent_count : q.sent ≡ count_after r.sent (length sent)
-  pub failed_count : q.failed ≡ count_after r.failed (broken_count given)
+  pub failed_count : q.failed ≡ count_after r.failed (failure_count given)
   pub lost : q.lost ≡ r.lost
   pub keeps : KeepsReceiver r q
 
 -- A datagram was sent or failed.
 abbrev pub any_moved : List LinkAnswer → Bool
 any_moved [] = false
-any_moved (Busy ∷ given) = any_moved given
+any_moved (NotReady ∷ given) = any_moved given
 any_moved (answer ∷ given) = true
 
 -- These calls flush one receiver.

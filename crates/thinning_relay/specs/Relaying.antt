@@ -1,9 +1,10 @@
 -- What a relay does in a turn and in a flush.
 use Rattle.std.specs.Prelude.{◌≡◌, ◌≤◌, ◌+◌, ◌++◌, ℕ, Bool, true, List, [], ◌∷◌, length, Option, Some, if◌then◌else◌, slice_get}
-use Rattle.wire_model.specs.Link.{Reception, Arrived, NotReady, Closed, Failed, LinkAnswer}
+use Rattle.wire_model.specs.Receptions.{Reception, Arrived, NotReady, Closed, Failed}
+use Rattle.wire_model.specs.LinkAnswers.{LinkAnswer}
 use Rattle.wire_model.specs.Datagram.{is_well_formed}
 use Rattle.relay_model.specs.Queue.{Tale, turn}
-use Rattle.relay_model.specs.Relays.{given_by, broken_count}
+use Rattle.relay_model.specs.Relays.{given_by, failure_count}
 use Rattle.relay_model.specs.Laws.{IsSettled}
 use Rattle.scl_outside.specs.Meaning.{Meaning}
 use Rattle.scl_outside.specs.Events.{WireEvent, OnWire, Received}
@@ -59,7 +60,7 @@ pub record ServedTurn (given : Option (List ℕ)) (r q : Receiver) (took : List 
         tale = record {
           sent = x.sent ++ sent;
           lost = x.lost + missed (depth_of r.queue) (kept_of r.limit given) (queued r);
-          failed = x.failed + broken_count took;
+          failed = x.failed + failure_count took;
           left = queued q;
         };
         answers = more;
@@ -67,7 +68,7 @@ pub record ServedTurn (given : Option (List ℕ)) (r q : Receiver) (took : List 
   pub settled : IsSettled (queued q) took
   pub sent_count : q.sent ≡ count_after r.sent (length sent)
   pub lost_count : q.lost ≡ count_after r.lost (missed (depth_of r.queue) (kept_of r.limit given) (queued r))
-  pub failed_count : q.failed ≡ count_after r.failed (broken_count took)
+  pub failed_count : q.failed ≡ count_after r.failed (failure_count took)
   pub keeps : KeepsReceiver r q
 
 -- A turn in which this was received, and something was sent or failed or nothing was, has this answer.

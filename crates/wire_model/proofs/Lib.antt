@@ -7,3 +7,4 @@ pub mod PayloadFound
 pub mod Lists
 pub mod RtpLaws
 pub mod RtpFound
+pub mod VerdictLaws

@@ -1,6 +1,6 @@
 -- What is computed of the captures: their frames, what each datagram says, and what thinning keeps.
 use Rattle.std.specs.Prelude.{◌≡◌, true, false, [], ◌∷◌, length, drop, slice_range}
-use Rattle.std.proofs.Common.{refl}
+use Rattle.std.proofs.Common.{refl, List, ℕ}
 use Rattle.wire_model.specs.Framing.{framing, first_frames, whole_frames}
 use Rattle.wire_model.specs.Payload.{Main, Body}
 use Rattle.wire_model.specs.Datagram.{datagram_of, is_well_formed}
@@ -141,3 +141,17 @@ less_of_b = refl
 pub kept_by_resolution : kept 5 (main_of_a ∷ small_body 1 0 ∷ small_body 2 5 ∷ small_body 3 6 ∷ small_body 4 7 ∷ []) ≡ main_of_a ∷ small_body 1 0 ∷ small_body 2 5 ∷ []
 unfolding main_header main_of_a
 kept_by_resolution = refl
+
+-- A Main after a contributing source and an extension of one word, with one skipped word, two codestream bytes and two bytes of padding.
+abbrev pub long_main : List ℕ
+long_main =
+    177 ∷ 96 ∷ 0 ∷ 9 ∷ 0 ∷ 0 ∷ 0 ∷ 5 ∷ 0 ∷ 0 ∷ 0 ∷ 1 ∷ 0 ∷ 0 ∷ 0 ∷ 7 ∷ 190 ∷ 222 ∷ 0 ∷ 1 ∷ 1 ∷ 2 ∷ 3 ∷ 4
+    ∷ 195 ∷ 16 ∷ 0 ∷ 2 ∷ 0 ∷ 0 ∷ 0 ∷ 0 ∷ 11 ∷ 12 ∷ 13 ∷ 14 ∷ 170 ∷ 187 ∷ 0 ∷ 2 ∷ []
+
+-- It is well formed,
+pub long_main_is_well_formed : is_well_formed long_main ≡ true
+long_main_is_well_formed = refl
+
+-- and this is read of it.
+pub long_main_is_read : datagram_of long_main ≡ record { rtp = record { marker = false; kind = 96; number = 9; stamp = 5; source = 1 }; payload = Main (record { ordh = 3; eseq = 2; xtrac = 1 }); codestream = 170 ∷ 187 ∷ [] }
+long_main_is_read = refl

@@ -7,5 +7,7 @@ pub mod Payload
 pub mod PayloadReading
 pub mod Datagram
 pub mod Thinning
-pub mod Link
+pub mod Receptions
+pub mod LinkAnswers
 pub mod Laws
+pub mod Verdicts

@@ -1,5 +1,6 @@
 //! The laws of the definitions, each on a function that does nothing.
 ghost use Rattle.wire_model.specs.Laws.{FramesAreComputed, BytesSplit, RtpIsReadOneWay, RtpReadsAsLaidOut, PayloadIsReadOneWay, PayloadReadsAsLaidOut, DatagramIsComputed, WellFormedIsDatagram, KeptIsWithin};
+ghost use Rattle.wire_model.specs.Verdicts.{RtpHasOneVerdict, PayloadHasOneVerdict};
 
 /// The frames of bytes are the ones that are computed, and what is left is what follows them.
 pub fn frames_are_computed()
@@ -44,4 +45,14 @@ pub fn well_formed_is_datagram()
 /// What thinning keeps is what serves the receiver.
 pub fn kept_is_within()
     ensures { KeptIsWithin }
+{}
+
+/// Of any bytes just one is true: they are an RTP datagram, or they have one of its faults.
+pub fn rtp_has_one_verdict()
+    ensures { RtpHasOneVerdict }
+{}
+
+/// Of any bytes just one is true: they are a payload, or they have one of its faults.
+pub fn payload_has_one_verdict()
+    ensures { PayloadHasOneVerdict }
 {}

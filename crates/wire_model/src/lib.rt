@@ -8,6 +8,6 @@ mod laws;
 
 pub use laws::{
     bytes_split, datagram_is_computed, frames_are_computed, kept_is_within,
-    payload_is_read_one_way, payload_reads_as_laid_out, rtp_is_read_one_way, rtp_reads_as_laid_out,
-    well_formed_is_datagram,
+    payload_has_one_verdict, payload_is_read_one_way, payload_reads_as_laid_out,
+    rtp_has_one_verdict, rtp_is_read_one_way, rtp_reads_as_laid_out, well_formed_is_datagram,
 };

@@ -9,7 +9,8 @@ use Rattle.j2k_markers.specs.Walking.{ReadsMain, ReadsTile}
 use Rattle.j2k_markers.specs.Refusals.{read_as}
 use Rattle.j2k_markers.proofs.Judges.{judged_err, judged_ok}
 use Rattle.j2k_markers.proofs.Keeping.{next_is_kept}
-use Rattle.j2k_markers.proofs.Refusing.{answer_refused, main_refuses, cut_next, why_cut}
+use Rattle.codestream_model.proofs.CutHeads.{cut_next}
+use Rattle.j2k_markers.proofs.Refusing.{answer_refused, main_refuses, why_cut}
 use Rattle.j2k_markers.proofs.Starting.{begins}
 use Rattle.j2k_markers.proofs.Stepping.{Adds, main_goes, main_ends}
 use Rattle.j2k_markers.proofs.walk.walk_main.Goals as goal

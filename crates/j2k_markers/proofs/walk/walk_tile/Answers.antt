@@ -5,7 +5,8 @@ use Rattle.codestream_model.specs.RefusedHeader.{refusal_behind}
 use Rattle.j2k_markers.specs.Walking.{ReadsTile}
 use Rattle.j2k_markers.specs.Refusals.{read_as}
 use Rattle.j2k_markers.proofs.Judges.{judged_err, judged_ok}
-use Rattle.j2k_markers.proofs.Refusing.{answer_refused, tile_refuses, cut_behind, why_cut}
+use Rattle.codestream_model.proofs.CutHeads.{cut_behind}
+use Rattle.j2k_markers.proofs.Refusing.{answer_refused, tile_refuses, why_cut}
 use Rattle.j2k_markers.proofs.Stepping.{Adds, tile_goes, tile_whole}
 use Rattle.j2k_markers.proofs.walk.walk_tile.Goals as goal
 

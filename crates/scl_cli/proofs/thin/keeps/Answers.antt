@@ -1,5 +1,5 @@
 use Rattle.std.proofs.Common.{◌∙◌, arith}
-use Rattle.scl_cli.proofs.Keeping.{kept_by, not_payload}
+use Rattle.scl_payload.proofs.Keeping.{kept_by, not_payload}
 use Rattle.wire_model.proofs.DatagramLaws.{bytes-range}
 use Rattle.scl_cli.proofs.thin.keeps.Goals as goal
 

@@ -1,6 +1,6 @@
 use Rattle.std.proofs.Common.{◌∙◌, ◌≡◌, sym, false, ◌≤◌, ◌==◌, ℕ, Bool, arith}
 use Rattle.std.proofs.lemmas.Bool.Decides.{nat_tests}
-use Rattle.thinning_relay.proofs.Keeping.{kept_by, not_payload}
+use Rattle.scl_payload.proofs.Keeping.{kept_by, not_payload}
 use Rattle.wire_model.proofs.DatagramLaws.{bytes-range}
 use Rattle.thinning_relay.proofs.level.level_of.Goals as goal
 

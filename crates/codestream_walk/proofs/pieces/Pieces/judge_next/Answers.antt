@@ -7,7 +7,7 @@ use Rattle.codestream_walk.specs.Walking.{Stage, AtNext, Seen, Walking, Wants, R
 use Rattle.codestream_walk.specs.Staging.{stage_of}
 use Rattle.codestream_walk.specs.Progressions.{after_packet}
 use Rattle.codestream_walk.specs.Faults.{walk_refusal}
-use Rattle.codestream_walk.proofs.Packets.{needs_short}
+use Rattle.codestream_model.proofs.ItemsJudged.{unfinished_short}
 use Rattle.codestream_walk.proofs.Stages.{at_next, next_place, gives_start, sound_started, same_stage, wants_packet, refuses_packet, refused_answer, start_seen, has_begun, walk_of}
 use Rattle.codestream_walk.proofs.pieces.Pieces.judge_next.Goals as goal
 
@@ -67,7 +67,7 @@ returns-in-Wants c =
     let judged = rw (c.bytes.ensures, c.geometry.ensures) at c.in-Wants.ensures.judged in
     let walk : walk_of i.input i.codestreams (stage_of i.state (Some b) (place_of i.place) (map block_of i.reader.blocks) i.size i.left) ≡ c.args.self.now.walk = rw c.in-Some.is at (ap (λ (v : Seen). v.walk) c.self.view_is) in
     let P : Walking → Type 0 = λ w. Wants w × (length w.hand < 65538) in
-    let short : length i.input.bytes < 65538 = needs_short b.head _ i.input.bytes judged.1 in
+    let short : length i.input.bytes < 65538 = unfinished_short b.head _ i.input.bytes judged.1 in
     let wants = subst P walk (wants_packet b _ c.requires.0 _ _ c.requires.2 i.codestreams i.input.bytes n parts.1 judged.0 judged.1, short) in
     record {
       walk = (ap (λ (s : Stage). walk_of i.input i.codestreams s) (same_stage i.state b (place_of i.place) (map block_of i.reader.blocks) (map block_of c.judge_packet.new.reader.blocks) i.size i.left c.requires.0 c.requires.1 c.requires.2 f) ∙ walk);

@@ -1,7 +1,7 @@
 use Rattle.std.proofs.Common.{refl, ap, ◌≡◌, false, Bool}
 use Rattle.std.specs.Rc.{rc_slice_items}
 use Rattle.polled_datagrams.specs.Sending.{KeepsPeer}
-use Rattle.polled_datagrams.proofs.Polling.{polled_none, polled_all, sent_first, failed_first, busy_first, none_first}
+use Rattle.polled_datagrams.proofs.Polling.{polled_none, polled_all, sent_first, failed_first, not_ready_first, none_first}
 use Rattle.polled_datagrams.specs.declared.sending.Flushed.{Flushed}
 use Rattle.polled_datagrams.proofs.sending.SendFuture.poll.Goals as goal
 use Rattle.polled_datagrams.proofs.sending.SendFuture.poll.Goals.{in-Sent, in-Failed}
@@ -10,7 +10,7 @@ pub loop-datagram-init : goal.loop-datagram-init
 loop-datagram-init g c = record { polled = polled_none _ _ _; quiet = refl; keeps = record { peer = refl; depth = refl } }
 
 pub returns-in-NotReady-clause-polled : goal.returns-in-NotReady-clause-polled
-returns-in-NotReady-clause-polled g c = busy_first rc_slice_items _ _ _ c.loop-datagram.self.queue.items c.in-Some.datagram.now _ _ _ _ _ _ c.loop-datagram.invariant.keeps.peer c.in-Some.ensures c.as_slice.ensures.value c.loop-datagram.invariant.polled c.in-NotReady.ensures.step
+returns-in-NotReady-clause-polled g c = not_ready_first rc_slice_items _ _ _ c.loop-datagram.self.queue.items c.in-Some.datagram.now _ _ _ _ _ _ c.loop-datagram.invariant.keeps.peer c.in-Some.ensures c.as_slice.ensures.value c.loop-datagram.invariant.polled c.in-NotReady.ensures.step
 
 pub loop-datagram-preserved-after-send : goal.loop-datagram-preserved-after-send
 loop-datagram-preserved-after-send g c =

@@ -1,5 +1,5 @@
 use Rattle.std.proofs.Common.{◌+◌, ◌∙◌, ap, min, take, arith}
-use Rattle.wire_model.specs.Link.{Arrived, NotReady, Failed}
+use Rattle.wire_model.specs.Receptions.{Arrived, NotReady, Failed}
 use Rattle.scl_cli.proofs.MachineSteps.{received, at_front, risen}
 use Rattle.scl_cli.proofs.machine.MachineOutside.recv.Goals as goal
 
