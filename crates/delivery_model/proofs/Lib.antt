@@ -1,0 +1,6 @@
+mod Delivered
+mod Received
+mod WorkedDeliveries
+mod Picked
+mod WorkedReceptions
+mod WorkedForgery

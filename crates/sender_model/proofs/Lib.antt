@@ -1,0 +1,9 @@
+mod PiecesFound
+mod ClosedComputed
+mod Refused
+mod Told
+mod Packed
+mod WorkedClosings
+mod WorkedSends
+mod CarriedBytes
+mod Ahead

@@ -1,0 +1,9 @@
+pub mod Closing
+pub mod ClosingLaws
+pub mod Refusals
+pub mod RefusalLaws
+pub mod Sending
+pub mod SendingLaws
+pub mod Outputs
+pub mod OutputLaws
+pub mod Lead

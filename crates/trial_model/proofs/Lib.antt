@@ -1,0 +1,5 @@
+mod Drawing
+mod WorkedDraws
+mod WorkedTrials
+mod Trials
+mod WorkedPacks

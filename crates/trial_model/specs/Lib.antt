@@ -1,0 +1,5 @@
+pub mod Draws
+pub mod Generator
+pub mod Trial
+pub mod DrawLaws
+pub mod TrialLaws

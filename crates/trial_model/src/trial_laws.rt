@@ -1,0 +1,12 @@
+//! Laws of the trial, each on a function that does nothing.
+ghost use Rattle.trial_model.specs.TrialLaws.{DeliveredAreWithin, TrialCountsWhatIsReceived};
+
+/// What is delivered are some of the datagrams.
+pub fn delivered_are_within()
+    ensures { DeliveredAreWithin }
+{}
+
+/// A trial counts what a receiver makes of the thinned list.
+pub fn trial_counts_what_is_received()
+    ensures { TrialCountsWhatIsReceived }
+{}
