@@ -1,23 +1,24 @@
 -- The least of one resolution from a key on, and that of more of them.
-use Rattle.std.proofs.Common.{◌≡◌, ◌<◌, ◌≤◌, ◌+◌, ℕ, true, false, is_lt, List, [], ◌∷◌, length, Option, Some, None, inl, inr, refl, sym, ◌∙◌, ap, subst, arith}
+use Rattle.std.proofs.Common.{◌≡◌, ◌<◌, ◌≤◌, ◌+◌, ℕ, true, false, is_lt, List, [], ◌∷◌, length, Option, Some, None, IfSome, IsNone, inl, inr, refl, sym, ◌∙◌, ap, subst, arith}
 use Rattle.codestream_model.specs.Values.{Head, Place}
 use Rattle.codestream_model.specs.Precincts.{precinct_count, IsPrecinct}
 use Rattle.codestream_model.specs.PacketOrder.{anchor, key, rank}
 use Rattle.codestream_model.proofs.Numbers.{same_place}
 use Rattle.pcrl_order.specs.declared.anchored.Anchored.{Anchored}
 use Rattle.pcrl_order.specs.declared.cursor.Key.{Key}
+use Rattle.pcrl_order.specs.Ahead.{numbers_of}
 use Rattle.pcrl_order.specs.Anchors.{anchored_of, place_in, by_fields}
-use Rattle.pcrl_order.specs.Least.{IsFrom, IsLeastIn, NoneIn, IsUpTo, IsLeast, numbers_in, IsStartIn, IsLeastOf, IsOfEarlier, IsPast}
-use Rattle.pcrl_order.proofs.InOrder.{numbers_of, up_to, less_up_to}
-use Rattle.pcrl_order.proofs.Leasts.{IsHere, from_beside, here_or_behind}
+use Rattle.pcrl_order.specs.Least.{IsFrom, IsLeastIn, NoneIn, IsUpTo, IsLeast, numbers_in, IsStartIn, IsLeastOf, IsOfEarlier, IsInResolution, IsPast}
+use Rattle.pcrl_order.proofs.InOrder.{up_to, less_up_to}
+use Rattle.pcrl_order.proofs.Leasts.{from_beside, here_or_behind}
 use Rattle.pcrl_order.proofs.Ranks.{of_same_rank}
 
 -- a precinct here has this place
-place_here : (h : Head) (c r : ℕ) (z : Place) → IsPrecinct h z → IsHere c r z → (z ≡ record { c = c; r = r; k = z.k }) × (z.k < precinct_count h c r)
+place_here : (h : Head) (c r : ℕ) (z : Place) → IsPrecinct h z → IsInResolution c r z → (z ≡ record { c = c; r = r; k = z.k }) × (z.k < precinct_count h c r)
 place_here h c r z is here = (same_place z (record { c = c; r = r; k = z.k }) here.0 here.1 refl, let few : z.k < precinct_count h z.c z.r = is.number in rw here.0 at (rw here.1 at few))
 
 -- where all anchors of the resolution are before the key, none is here
-pub none_from : (h : Head) (from : Key) (c r : ℕ) → IsStartIn from (rank h r) c r None → (z : Place) → IsPrecinct h z → IsHere c r z → IsUpTo (numbers_in from) (key h z) → ⊥
+pub none_from : (h : Head) (from : Key) (c r : ℕ) → IsStartIn from (rank h r) c r None → (z : Place) → IsPrecinct h z → IsInResolution c r z → IsUpTo (numbers_in from) (key h z) → ⊥
 none_from h from c r before z is here up =
     let P : Place → Type 0 = λ w. IsUpTo (numbers_in from) (key h w) in
     before (anchor h (record { c = c; r = r; k = z.k })) (subst P (place_here h c r z is here).0 up)
@@ -29,11 +30,11 @@ from_here h from c r y x z start e up =
     (start (anchor h (record { c = c; r = r; k = z.k }))).0 (subst P e up)
 
 -- so where there is none in the resolution, none is here
-pub none_here : (h : Head) (from : Key) (c r y x : ℕ) → IsStartIn from (rank h r) c r (Some (y, x)) → NoneIn h c r y x → (z : Place) → IsPrecinct h z → IsHere c r z → IsUpTo (numbers_in from) (key h z) → ⊥
+pub none_here : (h : Head) (from : Key) (c r y x : ℕ) → IsStartIn from (rank h r) c r (Some (y, x)) → NoneIn h c r y x → (z : Place) → IsPrecinct h z → IsInResolution c r z → IsUpTo (numbers_in from) (key h z) → ⊥
 none_here h from c r y x start none z is here up = let at = place_here h c r z is here in none z.k at.1 (from_here h from c r y x z start at.0 up)
 
 -- and the least of the resolution is the least here
-pub least_here : (h : Head) (from : Key) (c r y x : ℕ) (one : Anchored) → c < length h.steps → r ≤ h.levels → IsStartIn from (rank h r) c r (Some (y, x)) → IsLeastIn h c r y x one → IsLeast h (numbers_in from) (IsHere c r) one
+pub least_here : (h : Head) (from : Key) (c r y x : ℕ) (one : Anchored) → c < length h.steps → r ≤ h.levels → IsStartIn from (rank h r) c r (Some (y, x)) → IsLeastIn h c r y x one → IsLeast h (numbers_in from) (IsInResolution c r) one
 least_here h from c r y x one component resolution start least =
     let place : Place = record { c = c; r = r; k = one.k } in
     let same : place_in one ≡ place = ap place_in least.anchored in
@@ -58,7 +59,7 @@ least_here h from c r y x one component resolution start least =
     }
 
 -- the numbers of one with its anchor are its key
-numbers_are_key : (h : Head) (a : Anchored) → a ≡ anchored_of h (place_in a) → numbers_of a ≡ key h (place_in a)
+pub numbers_are_key : (h : Head) (a : Anchored) → a ≡ anchored_of h (place_in a) → numbers_of a ≡ key h (place_in a)
 numbers_are_key h a e = ap (λ (b : Anchored). numbers_of b) e
 
 -- one of two is up to the other by the comparison
@@ -94,3 +95,9 @@ past_more h from c r (Some a) least past = record {
     | inr here ↦ after_lesser h c r a z least.anchored past here.1
   ];
 }
+
+-- the least of the resolution, or that there is none, is that of those here
+pub least_of_here : (h : Head) (from : Key) (c r y x : ℕ) (best : Option Anchored) → c < length h.steps → r ≤ h.levels → IsStartIn from (rank h r) c r (Some (y, x)) → IfSome best (λ a. IsLeastIn h c r y x a) → (IsNone best → NoneIn h c r y x)
+    → IsLeastOf h (numbers_in from) (IsInResolution c r) best
+least_of_here h from c r y x None component resolution start some none = none_here h from c r y x start (none refl)
+least_of_here h from c r y x (Some a) component resolution start some none = least_here h from c r y x a component resolution start some

@@ -15,14 +15,11 @@ use Rattle.codestream_model.proofs.Members.{Has, has_contained, contained_has, h
 use Rattle.codestream_model.proofs.Anchors.{keys_are_distinct}
 use Rattle.codestream_model.proofs.Orders.{before_along}
 use Rattle.pcrl_order.specs.declared.anchored.Anchored.{Anchored}
+use Rattle.pcrl_order.specs.Ahead.{numbers_of}
 use Rattle.pcrl_order.specs.Anchors.{anchored_of, place_in, by_fields}
 use Rattle.pcrl_order.proofs.Apart.{AreApart, apart_in_each_order, apart_from_pairs}
 use Rattle.codestream_model.proofs.Orders.{all_are_precincts, precinct_is_there}
 use Rattle.pcrl_order.proofs.Precincts.{Differ, all_differ}
-
--- what packets are ordered by
-abbrev pub numbers_of : Anchored → List ℕ
-numbers_of a = a.rank ∷ a.y ∷ a.x ∷ a.c ∷ a.r ∷ []
 
 -- one comes before another, or has the same numbers
 abbrev pub IsUpTo : Anchored → Anchored → Type 0

@@ -9,7 +9,7 @@ use Rattle.precinct_geometry.specs.declared.course.Course.{Course}
 use Rattle.precinct_geometry.specs.Courses.{corner_of, IsFirstFrom}
 use Rattle.pcrl_order.specs.declared.anchored.Anchored.{Anchored}
 use Rattle.pcrl_order.specs.Anchors.{place_in}
-use Rattle.pcrl_order.specs.Least.{IsFrom, corner, IsChoice, IsUpTo, IsLeast, IsLeastOf, IsOfEarlier}
+use Rattle.pcrl_order.specs.Least.{IsFrom, corner, IsChoice, IsUpTo, IsLeast, IsLeastOf, IsOfEarlier, IsInResolution}
 
 -- later strips have no lesser anchors
 later_corner : (s : Course) (i j : ℕ) → i ≤ j → corner_of s i ≤ corner_of s j
@@ -72,11 +72,7 @@ up_to_along a b c (inl f) (inl g) = inl (before_along a b c f g)
 up_to_along a b c (inl f) (inr e) = inl (subst (λ (w : List ℕ). IsBefore a w) e f)
 up_to_along a b c (inr e) g = subst (λ (w : List ℕ). IsUpTo w c) (sym e) g
 
--- the precincts of one more resolution
-abbrev pub IsHere : ℕ → ℕ → Place → Type 0
-IsHere c r z = (z.c ≡ c) × (z.r ≡ r)
-
-pub here_or_behind : (c r : ℕ) (z : Place) → IsOfEarlier c (r + 1) z → IsOfEarlier c r z ⊎ IsHere c r z
+pub here_or_behind : (c r : ℕ) (z : Place) → IsOfEarlier c (r + 1) z → IsOfEarlier c r z ⊎ IsInResolution c r z
 here_or_behind c r z (inl lt) = inl (inl lt)
 here_or_behind c r z (inr (e, lt)) = elim (cases_lt z.r r) [
   | inl less ↦ inl (inr (e, less))
@@ -84,7 +80,7 @@ here_or_behind c r z (inr (e, lt)) = elim (cases_lt z.r r) [
 ]
 
 -- none more is found,
-pub none_more : (h : Head) (from : List ℕ) (c r : ℕ) (best : Option Anchored) → IsLeastOf h from (IsOfEarlier c r) best → ((z : Place) → IsPrecinct h z → IsHere c r z → IsUpTo from (key h z) → ⊥) → IsLeastOf h from (IsOfEarlier c (r + 1)) best
+pub none_more : (h : Head) (from : List ℕ) (c r : ℕ) (best : Option Anchored) → IsLeastOf h from (IsOfEarlier c r) best → ((z : Place) → IsPrecinct h z → IsInResolution c r z → IsUpTo from (key h z) → ⊥) → IsLeastOf h from (IsOfEarlier c (r + 1)) best
 none_more h from c r None none here = λ z is behind up. elim (here_or_behind c r z behind) [ inl early ↦ none z is early up | inr at ↦ here z is at up ]
 none_more h from c r (Some a) least here = record {
   is = least.is;
@@ -94,7 +90,7 @@ none_more h from c r (Some a) least here = record {
 }
 
 -- or the first,
-pub first_more : (h : Head) (from : List ℕ) (c r : ℕ) (one : Anchored) → IsLeastOf h from (IsOfEarlier c r) None → IsLeast h from (IsHere c r) one → IsLeast h from (IsOfEarlier c (r + 1)) one
+pub first_more : (h : Head) (from : List ℕ) (c r : ℕ) (one : Anchored) → IsLeastOf h from (IsOfEarlier c r) None → IsLeast h from (IsInResolution c r) one → IsLeast h from (IsOfEarlier c (r + 1)) one
 first_more h from c r one none at = record {
   is = at.is;
   anchored = at.anchored;
@@ -103,7 +99,7 @@ first_more h from c r one none at = record {
 }
 
 -- or one that is less than the least so far,
-pub less_more : (h : Head) (from : List ℕ) (c r : ℕ) (one best : Anchored) → IsLeast h from (IsOfEarlier c r) best → IsLeast h from (IsHere c r) one → IsUpTo (key h (place_in one)) (key h (place_in best)) → IsLeast h from (IsOfEarlier c (r + 1)) one
+pub less_more : (h : Head) (from : List ℕ) (c r : ℕ) (one best : Anchored) → IsLeast h from (IsOfEarlier c r) best → IsLeast h from (IsInResolution c r) one → IsUpTo (key h (place_in one)) (key h (place_in best)) → IsLeast h from (IsOfEarlier c (r + 1)) one
 less_more h from c r one best least at less = record {
   is = at.is;
   anchored = at.anchored;
@@ -115,7 +111,7 @@ less_more h from c r one best least at less = record {
 }
 
 -- or one that isn't
-pub same_more : (h : Head) (from : List ℕ) (c r : ℕ) (one best : Anchored) → IsLeast h from (IsOfEarlier c r) best → IsLeast h from (IsHere c r) one → IsUpTo (key h (place_in best)) (key h (place_in one)) → IsLeast h from (IsOfEarlier c (r + 1)) best
+pub same_more : (h : Head) (from : List ℕ) (c r : ℕ) (one best : Anchored) → IsLeast h from (IsOfEarlier c r) best → IsLeast h from (IsInResolution c r) one → IsUpTo (key h (place_in best)) (key h (place_in one)) → IsLeast h from (IsOfEarlier c (r + 1)) best
 same_more h from c r one best least at less = record {
   is = least.is;
   anchored = least.anchored;

@@ -8,3 +8,4 @@ pub mod Ranks
 pub mod Resolutions
 pub mod Heres
 pub mod Steps
+pub mod Candidates

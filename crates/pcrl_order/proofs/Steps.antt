@@ -14,7 +14,7 @@ use Rattle.pcrl_order.proofs.InOrder.{has_steps}
 use Rattle.pcrl_order.proofs.Behind.{is_next, is_first, is_last}
 
 -- numbers behind others are those from the others with one more at the end on,
-up_to_more : (t y x c r v a b d s : ℕ) → IsBefore (t ∷ y ∷ x ∷ c ∷ r ∷ []) (v ∷ a ∷ b ∷ d ∷ s ∷ []) → IsUpTo (t ∷ y ∷ x ∷ c ∷ (r + 1) ∷ []) (v ∷ a ∷ b ∷ d ∷ s ∷ [])
+pub up_to_more : (t y x c r v a b d s : ℕ) → IsBefore (t ∷ y ∷ x ∷ c ∷ r ∷ []) (v ∷ a ∷ b ∷ d ∷ s ∷ []) → IsUpTo (t ∷ y ∷ x ∷ c ∷ (r + 1) ∷ []) (v ∷ a ∷ b ∷ d ∷ s ∷ [])
 up_to_more t y x c r v a b d s (inl lt) = inl (inl lt)
 up_to_more t y x c r v a b d s (inr (q, inl lt)) = inl (inr (q, inl lt))
 up_to_more t y x c r v a b d s (inr (q, inr (e, inl lt))) = inl (inr (q, inr (e, inl lt)))
@@ -26,7 +26,7 @@ up_to_more t y x c r v a b d s (inr (q, inr (e, inr (f, inr (g, inl lt))))) = el
 up_to_more t y x c r v a b d s (inr (q, inr (e, inr (f, inr (g, inr (i, none)))))) = absurd none
 
 -- and there are no others
-more_up_to : (t y x c r v a b d s : ℕ) → IsUpTo (t ∷ y ∷ x ∷ c ∷ (r + 1) ∷ []) (v ∷ a ∷ b ∷ d ∷ s ∷ []) → IsBefore (t ∷ y ∷ x ∷ c ∷ r ∷ []) (v ∷ a ∷ b ∷ d ∷ s ∷ [])
+pub more_up_to : (t y x c r v a b d s : ℕ) → IsUpTo (t ∷ y ∷ x ∷ c ∷ (r + 1) ∷ []) (v ∷ a ∷ b ∷ d ∷ s ∷ []) → IsBefore (t ∷ y ∷ x ∷ c ∷ r ∷ []) (v ∷ a ∷ b ∷ d ∷ s ∷ [])
 more_up_to t y x c r v a b d s (inl (inl lt)) = inl lt
 more_up_to t y x c r v a b d s (inl (inr (q, inl lt))) = inr (q, inl lt)
 more_up_to t y x c r v a b d s (inl (inr (q, inr (e, inl lt)))) = inr (q, inr (e, inl lt))

@@ -1,5 +1,5 @@
 -- The first precinct of the packet order that isn't before a key.
-use Rattle.std.specs.Prelude.{◌≡◌, ◌<◌, ◌≤◌, ◌↔◌, ◌⊎◌, ℕ, List, [], ◌∷◌, Option, None, Some}
+use Rattle.std.specs.Prelude.{◌≡◌, ◌<◌, ◌≤◌, ◌↔◌, ◌⊎◌, ◌^◌, ℕ, List, [], ◌∷◌, Option, None, Some}
 use Rattle.codestream_model.specs.Values.{Pair, Head, Place}
 use Rattle.codestream_model.specs.Precincts.{precinct_count, IsPrecinct}
 use Rattle.codestream_model.specs.PacketOrder.{anchor, key, IsBefore}
@@ -28,6 +28,10 @@ pub record IsLeastIn (h : Head) (c r y x : ℕ) (a : Anchored) : Type 0 where
   pub anchored : a ≡ anchored_of h (record { c = c; r = r; k = a.k })
   pub from : IsFrom y x (anchor h (record { c = c; r = r; k = a.k }))
   pub least : (k : ℕ) → k < precinct_count h c r → IsFrom y x (anchor h (record { c = c; r = r; k = k })) → IsFrom a.y a.x (anchor h (record { c = c; r = r; k = k }))
+
+-- The anchor is small enough to go on from it.
+abbrev pub IsNear : Anchored → Type 0
+IsNear a = (a.y < 2 ^ 56) × (a.x < 2 ^ 56)
 
 -- Each anchor of the resolution is before (y, x).
 abbrev pub NoneIn : Head → ℕ → ℕ → ℕ → ℕ → Type 0
@@ -66,3 +70,7 @@ IsPast (Some a) rank = a.rank < rank
 -- A precinct of a component below `c`, or of component `c` and a resolution below `r`.
 abbrev pub IsOfEarlier : ℕ → ℕ → Place → Type 0
 IsOfEarlier c r z = (z.c < c) ⊎ ((z.c ≡ c) × (z.r < r))
+
+-- A precinct of this component and resolution.
+abbrev pub IsInResolution : ℕ → ℕ → Place → Type 0
+IsInResolution c r z = (z.c ≡ c) × (z.r ≡ r)

@@ -1,3 +1,4 @@
+pub mod Ahead
 pub mod Anchors
 pub mod Later
 pub mod Least

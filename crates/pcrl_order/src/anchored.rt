@@ -12,7 +12,7 @@ use std::alloc::{AllocError, Global};
 
 /// A precinct, its rank and its anchor. Their order, by the fields from first to last, is that of the packets: no two
 /// precincts of an image differ in `k` alone.
-#[derive(Clone, Copy, Debug, PartialEq, Eq, PartialOrd, Ord)]
+#[derive(Clone, Copy, Debug, Default, PartialEq, Eq, PartialOrd, Ord)]
 pub struct Anchored {
     pub rank: u8,
     pub y: u64,

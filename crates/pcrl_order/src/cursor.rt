@@ -1,12 +1,13 @@
 //! The packet order as a cursor that moves from one precinct to the next, without memory (T.800 B.12.1.3, B.12.1.4).
-ghost use Rattle.std.specs.Prelude.{◌≡◌, ◌≤◌, ◌<◌, ◌+◌, ◌^◌, ◌∷◌, [], true, false, IfSome, IsNone, length};
+ghost use Rattle.std.specs.Prelude.{◌≡◌, ◌≤◌, ◌<◌, ◌+◌, ◌^◌, ◌↔◌, ◌∷◌, [], true, false, IfSome, IsNone, IsTrue, length};
 ghost use Rattle.codestream_model.specs.Areas.{component_area};
 ghost use Rattle.codestream_model.specs.Precincts.{IsPrecinct};
 ghost use Rattle.codestream_model.specs.PacketOrder.{packet_order};
 ghost use Rattle.precinct_geometry.specs.Courses.{IsCourse};
 ghost use Rattle.precinct_geometry.specs.Spans.{area_of, place_of, IsWithin};
+ghost use Rattle.pcrl_order.specs.Anchors.{place_in};
 ghost use Rattle.pcrl_order.specs.Later.{later};
-ghost use Rattle.pcrl_order.specs.Least.{IsChoice, IsLeastIn, NoneIn, IsStartIn, IsPast, numbers_in, IsLeastOf, IsOfEarlier};
+ghost use Rattle.pcrl_order.specs.Least.{IsChoice, IsLeastIn, NoneIn, IsStartIn, IsPast, IsNear, numbers_in, IsUpTo, IsLeastOf, IsOfEarlier, IsInResolution};
 
 use crate::anchored::{Anchored, rank};
 use precinct_geometry::{Area, Course, Geometry, Place};
@@ -42,6 +43,7 @@ fn least_in(geometry: &Geometry, area: Area, c: u8, r: u8, y: u64, x: u64) -> Op
     requires y { y < 2 ^ 60 }
     requires x { x < 2 ^ 60 }
     ensures some { IfSome result (λ a. IsLeastIn geometry.now c r y x a) }
+    ensures near { IfSome result IsNear }
     ensures none { IsNone result → NoneIn geometry.now c r y x }
 {
     geometry.head().is_within_limits();
@@ -64,12 +66,46 @@ fn least_in(geometry: &Geometry, area: Area, c: u8, r: u8, y: u64, x: u64) -> Op
 
 /// What packets are ordered by: the rank, the anchor's y and x, the component, the resolution.
 #[derive(Clone, Copy, Debug, PartialEq, Eq)]
-struct Key {
-    rank: u8,
-    y: u64,
-    x: u64,
-    c: u8,
-    r: u8,
+pub(crate) struct Key {
+    pub(crate) rank: u8,
+    pub(crate) y: u64,
+    pub(crate) x: u64,
+    pub(crate) c: u8,
+    pub(crate) r: u8,
+}
+
+impl Key {
+    /// The least key.
+    pub(crate) fn least() -> Key
+        ensures { numbers_in result ≡ 0 ∷ 0 ∷ 0 ∷ 0 ∷ 0 ∷ [] }
+    {
+        Key {
+            rank: 0,
+            y: 0,
+            x: 0,
+            c: 0,
+            r: 0,
+        }
+    }
+
+    /// Whether this key comes before another, or is the same.
+    pub(crate) fn is_up_to(self, other: Key) -> bool
+        ensures { IsTrue result ↔ IsUpTo (numbers_in self) (numbers_in other) }
+    {
+        if self.rank != other.rank {
+            return self.rank < other.rank;
+        }
+        if self.y != other.y {
+            return self.y < other.y;
+        }
+        if self.x != other.x {
+            return self.x < other.x;
+        }
+        if self.c != other.c {
+            return self.c < other.c;
+        }
+        self.r <= other.r
+    }
 }
 
 /// The place (y, x) of the reference grid from which on the anchors of a resolution of this rank aren't before the key,
@@ -91,6 +127,28 @@ fn start_in(from: Key, rank: u8, c: u8, r: u8) -> Option<(u64, u64)>
         return Some((from.y, from.x + 1));
     }
     Some((from.y, from.x))
+}
+
+/// The precinct of a resolution with the least key from one on.
+pub(crate) fn least_in_resolution(
+    geometry: &Geometry,
+    area: Area,
+    from: Key,
+    c: u8,
+    r: u8,
+) -> Option<Anchored>
+    requires component { c < length geometry.now.steps }
+    requires resolution { r ≤ geometry.now.levels }
+    requires area { area_of area ≡ component_area geometry.now c }
+    requires within { IsWithin area }
+    requires y { from.y < 2 ^ 56 }
+    requires x { from.x < 2 ^ 56 }
+    ensures least { IsLeastOf geometry.now (numbers_in from) (IsInResolution c r) result }
+    ensures there { IfSome result (λ a. IsInResolution c r (place_in a)) }
+    ensures near { IfSome result IsNear }
+{
+    let (y, x) = start_in(from, rank(geometry, r), c, r)?;
+    least_in(geometry, area, c, r, y, x)
 }
 
 /// Whether each precinct of this rank comes after the one that was found.
@@ -121,14 +179,10 @@ fn with_resolution(
     requires best { IsLeastOf geometry.now (numbers_in from) (IsOfEarlier c r) best }
     ensures { IsLeastOf geometry.now (numbers_in from) (IsOfEarlier c (r + 1)) result }
 {
-    let here = rank(geometry, r);
-    if is_past(best, here) {
+    if is_past(best, rank(geometry, r)) {
         return best;
     }
-    let Some((y, x)) = start_in(from, here, c, r) else {
-        return best;
-    };
-    let Some(one) = least_in(geometry, area, c, r, y, x) else {
+    let Some(one) = least_in_resolution(geometry, area, from, c, r) else {
         return best;
     };
     let Some(least) = best else {
@@ -188,16 +242,7 @@ impl Cursor {
         ensures precinct { IsPrecinct geometry.now result }
     {
         geometry.head().is_within_limits();
-        let Some(first) = least_from(
-            geometry,
-            Key {
-                rank: 0,
-                y: 0,
-                x: 0,
-                c: 0,
-                r: 0,
-            },
-        ) else {
+        let Some(first) = least_from(geometry, Key::least()) else {
             unreachable!();
         };
         Cursor {

@@ -6,10 +6,12 @@ mod anchored;
 mod cursor;
 mod laws;
 mod order_list;
+mod walk;
 
 pub use cursor::Cursor;
 pub use laws::{later_is_the_rest, places_from_one_on};
 pub use order_list::OrderList;
+pub use walk::OrderWalk;
 
 #[cfg(test)]
 mod tests;

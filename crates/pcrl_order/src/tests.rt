@@ -255,3 +255,38 @@ fn a_wide_image_has_its_second_precinct_beside_the_first(rt: HostRuntime) -> Res
     assert!(rt; geometry.anchor(place) == (0, 32768));
     Ok(())
 }
+
+/// The line of the precinct where a walk is.
+fn line_at(rt: &impl Abort, walk: &OrderWalk) -> Line {
+    let (place, geometry) = (walk.place(), walk.geometry());
+    assert!(rt; geometry.holds(place));
+    let (y, x) = walk.anchor();
+    (geometry.pid(place), place.c, place.r, place.k, y, x)
+}
+
+/// Whether a walk goes through just these precincts.
+fn walks_along(rt: &impl Abort, geometry: Geometry, lines: &[Line]) -> bool {
+    let mut walk = OrderWalk::new(geometry);
+    let mut more = true;
+    for line in lines {
+        if !more || line_at(rt, &walk) != *line {
+            return false;
+        }
+        more = walk.advance();
+    }
+    !more && !walk.advance()
+}
+
+#[test]
+fn a_walk_goes_through_all_precincts_in_order(rt: HostRuntime) {
+    let rpcl = two_in_rpcl();
+    let cases: [(&[u8], &[Line]); 4] = [
+        (&TWO_COMPONENTS, &TWO_BY_POSITION),
+        (&rpcl, &TWO_BY_RESOLUTION),
+        (&GROK_RPCL, &GROK_LINES),
+        (&ODD_SAMPLE, &[(0, 0, 1, 0, 0, 1)]),
+    ];
+    for (header, lines) in cases {
+        assert!(rt; walks_along(&rt, geometry_of(&rt, header), lines));
+    }
+}

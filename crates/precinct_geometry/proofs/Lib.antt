@@ -1,3 +1,4 @@
+pub mod Components
 pub mod Corners
 pub mod Counting
 pub mod Courses

@@ -5,7 +5,7 @@ ghost use Rattle.codestream_model.specs.Precincts as precincts;
 ghost use Rattle.precinct_geometry.specs.Spans.{span_of};
 
 /// Places from one up to another, which isn't one of them.
-#[derive(Clone, Copy, Debug, PartialEq, Eq)]
+#[derive(Clone, Copy, Debug, Default, PartialEq, Eq)]
 pub struct Span {
     pub from: u64,
     pub to: u64,

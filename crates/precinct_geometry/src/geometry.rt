@@ -12,20 +12,45 @@ ghost use Rattle.precinct_geometry.specs.Spans.{span_of, area_of, place_of, grid
 use crate::areas::{Span, band_span, corner, divided, divided_by_power, part, power, strips};
 use crate::course::{Course, course_of};
 use crate::place::{Bands, Grid, Place};
-use j2k_markers::Head;
+use arrayvec::ArrayVec;
+use j2k_markers::{Head, MOST_COMPONENTS};
 use std::marker::Model;
 
 /// Places in x and in y.
-#[derive(Clone, Copy, Debug, PartialEq, Eq)]
+#[derive(Clone, Copy, Debug, Default, PartialEq, Eq)]
 pub struct Area {
     pub x: Span,
     pub y: Span,
+}
+
+/// The area of a component of a header's image.
+fn area_of_component(head: &Head, c: u8) -> Area
+    requires { c < length head.now.steps }
+    ensures area { area_of result ≡ areas.component_area head.now c }
+    ensures within { IsWithin result }
+{
+    let (x0, y0, x1, y1) = head.area();
+    let (step_x, step_y) = head.step(c);
+    let x = Span {
+        from: u64::from(x0),
+        to: u64::from(x1),
+    };
+    let y = Span {
+        from: u64::from(y0),
+        to: u64::from(y1),
+    };
+    Area {
+        x: divided(u64::from(step_x), x),
+        y: divided(u64::from(step_y), y),
+    }
 }
 
 /// The geometry of the image that a main header describes.
 #[derive(Drop)]
 pub struct Geometry {
     head: Head,
+    /// The areas of the components, so that they are divided once and not for each precinct.
+    components: ArrayVec<Area, MOST_COMPONENTS>,
 }
 
 impl Model for Geometry {
@@ -35,9 +60,9 @@ impl Model for Geometry {
 
     ghost view = { λ g. g.head };
 
-    ghost use Rattle.codestream_model.specs.HeadLimits.{IsWithinLimits};
+    ghost use Rattle.precinct_geometry.specs.Components.{IsLaidOut};
 
-    ghost invariant = { λ g. IsWithinLimits g.head };
+    ghost invariant = { λ g. IsLaidOut g.head g.components.items };
 }
 
 impl Geometry {
@@ -46,7 +71,11 @@ impl Geometry {
         ensures { result ≡ head }
     {
         head.is_within_limits();
-        Geometry { head }
+        let mut components = ArrayVec::new();
+        for c in 0..head.components() {
+            components.push(area_of_component(&head, c));
+        }
+        Geometry { head, components }
     }
 
     /// The header.
@@ -62,20 +91,7 @@ impl Geometry {
         ensures area { area_of result ≡ areas.component_area self.now c }
         ensures within { IsWithin result }
     {
-        let (x0, y0, x1, y1) = self.head.area();
-        let (step_x, step_y) = self.head.step(c);
-        let x = Span {
-            from: u64::from(x0),
-            to: u64::from(x1),
-        };
-        let y = Span {
-            from: u64::from(y0),
-            to: u64::from(y1),
-        };
-        Area {
-            x: divided(u64::from(step_x), x),
-            y: divided(u64::from(step_y), y),
-        }
+        self.components[usize::from(c)]
     }
 
     /// The area of a resolution.
@@ -211,7 +227,7 @@ impl Geometry {
     {
         let strips_here = self.strips_of(p);
         let area = self.band_area(p.c, p.r, band);
-        let (e_x, e_y) = self.head.precinct(p.r);
+        let (e_x, e_y) = self.head().precinct(p.r);
         let (e_x, e_y) = (band_exponent(p.r, e_x), band_exponent(p.r, e_y));
         let x = part(strips_here.x, e_x, area.x);
         let y = part(strips_here.y, e_y, area.y);
@@ -222,7 +238,7 @@ impl Geometry {
                 rows: 0,
             };
         }
-        let (block_x, block_y) = self.head.block();
+        let (block_x, block_y) = self.head().block();
         Grid {
             band,
             cols: strips(block_x.min(e_x), x) as u32,

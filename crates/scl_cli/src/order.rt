@@ -13,7 +13,7 @@ use crate::header_input::find_head;
 use crate::order_lines::line_of;
 use crate::{Command, Words};
 use j2k_markers::Head;
-use pcrl_order::Cursor;
+use pcrl_order::OrderWalk;
 use precinct_geometry::Geometry;
 use scl_outside::{Duct, WriteOut};
 use scl_run::Ending;
@@ -45,14 +45,13 @@ pub fn show_order<D: Duct>(out: &mut D) -> Ending
 fn write_order<D: Duct>(head: Head, out: &mut D) -> Ending
     ensures { (es : List Event) × Shows (order_lines head) (D.meaning out.old) (D.meaning out.new) result es }
 {
-    let geometry = Geometry::new(head);
-    let mut cursor = Cursor::first(&geometry);
+    let mut walk = OrderWalk::new(Geometry::new(head));
     loop {
-        match out.write(line_of(&geometry, cursor.place()).as_bytes()) {
+        match out.write(line_of(&walk).as_bytes()) {
             WriteOut::Done => {}
             WriteOut::Failed => return Ending::WriteFault,
         }
-        if !cursor.advance(&geometry) {
+        if !walk.advance() {
             return Ending::Done;
         }
     }

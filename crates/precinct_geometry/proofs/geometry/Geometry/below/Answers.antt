@@ -5,7 +5,7 @@ use Rattle.precinct_geometry.proofs.Counting.{below_none, below_next, few_below}
 use Rattle.precinct_geometry.proofs.geometry.Geometry.below.Goals as goal
 
 pub loop-lower-init : goal.loop-lower-init
-loop-lower-init c = (subst IsWithinLimits c.self.view_is c.self.invariant, omega (arith, below_none c.args.self.now c.args.c))
+loop-lower-init c = (subst IsWithinLimits c.self.view_is c.self.invariant.limits, omega (arith, below_none c.args.self.now c.args.c))
 
 -- the total with the next resolution is that below the one after it
 pub loop-lower-preserved : goal.loop-lower-preserved
