@@ -2,36 +2,39 @@
 use Rattle.std.proofs.Common.{◌≡◌, ◌≤◌, ◌<◌, ◌⊎◌, ◌+◌, ◌-◌, ◌==◌, ◌++◌, ℕ, zero, suc, Bool, true, false, List, [], ◌∷◌, length, take, drop, slice_index, nat_lt, Option, Some, None, IsSome, Result, Ok, Err, refl, sym, ◌∙◌, ap, subst, inl, inr, arith, if◌then◌else◌}
 use Rattle.std.proofs.lemmas.Bool.{le-ltb, lt-ltb}
 use Rattle.std.proofs.lemmas.Bool.Decides.{eqb_tells, leb_tells}
-use Rattle.std.proofs.lemmas.List.{length-take, length-append, length-drop, get_or-drop, take-append-drop}
-use Rattle.codestream_model.specs.StuffedBits.{carried_after, sound_after, packed_bits, bytes_of_bits, closing_after}
+use Rattle.std.proofs.lemmas.List.{length-take, length-append, length-drop, get_or-drop, drop_at, take_at}
+use Rattle.codestream_model.specs.StuffedBits.{number_bits, carried_after, sound_after, packed_bits, bytes_of_bits, closing_after}
+use Rattle.stuffed_bits.specs.Hand.{Hand, IsFree}
 use Rattle.stuffed_bits.specs.Stands.{last_from, last_of, before_next}
-use Rattle.stuffed_bits.specs.BitsRead.{closing_by, closing_answer}
+use Rattle.stuffed_bits.specs.BitsRead.{HasDrawn, closing_by, closing_answer}
 use Rattle.stuffed_bits.specs.declared.bit_in.BitOut.{BitOut}
 use Rattle.stuffed_bits.specs.declared.bit_in.BitOut.TheVariants.{Bit, Stuffed}
 use Rattle.stuffed_bits.proofs.StandLemmas.{before_last}
 use Rattle.stuffed_bits.proofs.ReadLemmas.{sound_of_all}
 use Rattle.stuffed_bits.proofs.PackedLemmas.{reach_of}
-use Rattle.packet_header.specs.Standing.{Stands, given_by}
+use Rattle.stuffed_bits.proofs.PartsRead.{drawn_free}
+use Rattle.packet_header.specs.Moves.{StandsAt, all_of, taken_of}
 use Rattle.packet_header.specs.Answers.{bit_answer, stop_at}
-use Rattle.packet_header.specs.Closing.{closes}
+use Rattle.packet_header.specs.Closing.{closed_after, counted, Closes}
 use Rattle.packet_header.specs.declared.source.Source.{Source}
 use Rattle.packet_header.specs.declared.refusal.Stop.{Stop}
 use Rattle.packet_header.specs.declared.refusal.Stop.TheVariants.{Need as StopNeed, Bad as StopBad}
 use Rattle.packet_header.specs.declared.refusal.HeaderWhy.TheVariants.{Stuffed as WhyStuffed}
-use Rattle.packet_header.proofs.Standings.{given_length}
+use Rattle.packet_header.proofs.Sources.{taken_and_rest}
 
 -- where bits were given, a byte was taken
-some_taken : (bytes : List ℕ) (unused : ℕ) → 0 < length (carried_after 0 bytes) - unused → 0 < length bytes
+some_taken : (done : List Bool) (bytes : List ℕ) (h : Hand) → HasDrawn done bytes h → 0 < length done → 0 < length bytes
 unfolding carried_after
-some_taken [] unused h = absurd (omega arith)
-some_taken (b ∷ bytes) unused h = omega arith
+some_taken done [] h r some = absurd (omega (arith, ap (λ (l : List Bool). length l) r.stands.filled, length-append done (number_bits h.left (before_next h.last))))
+some_taken done (b ∷ bytes) h r some = omega arith
 
 last_is_some : (bytes : List ℕ) → 0 < length bytes → IsSome (last_of bytes)
 last_is_some [] h = absurd (omega arith)
 last_is_some (b ∷ bytes) h = refl
 
-pub begun : (s : Source) → Stands s → 0 < given_by s → IsSome s.bits.last
-begun s stands some = let P : Option ℕ → Type 0 = λ o. IsSome o in subst P (sym stands.read.last) (last_is_some (take s.at s.piece.now) (some_taken (take s.at s.piece.now) s.bits.left some))
+-- so a reader that gave a bit has a last byte
+pub begun : (done : List Bool) (bytes : List ℕ) (h : Hand) → HasDrawn done bytes h → 0 < length done → IsSome h.last
+begun done bytes h r some = let P : Option ℕ → Type 0 = λ o. IsSome o in subst P (sym r.last) (last_is_some bytes (some_taken done bytes h r some))
 
 -- the last of bytes
 last_is : (before : ℕ) (bytes : List ℕ) → 0 < length bytes → last_from before bytes ≡ slice_index bytes (length bytes - 1)
@@ -50,100 +53,125 @@ item_of_front (b ∷ bytes) zero k h = absurd (omega arith)
 item_of_front (b ∷ bytes) (suc n) zero h = refl
 item_of_front (b ∷ bytes) (suc n) (suc k) h = item_of_front bytes n k (omega arith)
 
--- What a source that has given some bits knows of its bytes.
-record Taken (s : Source) : Type 0 where
-  some : 0 < s.at
-  used : bytes_of_bits 0 (given_by s) s.piece.now ≡ s.at
-  last : slice_index s.piece.now (s.at - 1) ≡ before_next s.bits.last
-  sound : sound_after 0 s.piece.now ≡ take s.at s.piece.now ++ sound_after (before_next s.bits.last) (drop s.at s.piece.now)
+-- an item of the first of two lists is that of both
+item_of_first : (front rest : List ℕ) (k : ℕ) → k < length front → slice_index (front ++ rest) k ≡ slice_index front k
+item_of_first [] rest k h = absurd (omega arith)
+item_of_first (b ∷ front) rest zero h = refl
+item_of_first (b ∷ front) rest (suc k) h = item_of_first front rest k (omega arith)
 
-taken : (s : Source) → Stands s → 0 < given_by s → Taken s
-taken s stands some =
-    let piece = s.piece.now in
-    let bits = take (given_by s) (packed_bits piece).bits in
-    let front = take s.at piece in
-    let whole : front ++ drop s.at piece ≡ piece = take-append-drop s.at piece in
-    let size : length front ≡ s.at = omega (arith, length-take s.at piece, stands.within) in
-    let there : 0 < length front = some_taken front s.bits.left some in
-    let reach : bytes_of_bits 0 (length bits) (front ++ drop s.at piece) ≡ length front = reach_of bits _ front (drop s.at piece) stands.read.stands there in
-    let count : length bits ≡ given_by s = given_length piece s.at s.bits stands in
-    let before : before_next s.bits.last ≡ last_from 0 front = ap before_next stands.read.last ∙ before_last front in
+-- the item between two lists
+item_at : (front : List ℕ) (b : ℕ) (more : List ℕ) → slice_index (front ++ b ∷ more) (length front) ≡ b
+item_at [] b more = refl
+item_at (a ∷ front) b more = item_at front b more
+
+-- What a reader of bits that has given some of these bytes' knows of them and of the rest.
+record Taken (front rest : List ℕ) (done : List Bool) (h : Hand) : Type 0 where
+  some : 0 < length front
+  used : bytes_of_bits 0 (length done) (front ++ rest) ≡ length front
+  last : slice_index (front ++ rest) (length front - 1) ≡ before_next h.last
+  sound : sound_after 0 (front ++ rest) ≡ front ++ sound_after (before_next h.last) rest
+
+taken : (front rest : List ℕ) (done : List Bool) (h : Hand) → HasDrawn done front h → 0 < length done → Taken front rest done h
+taken front rest done h r some =
+    let there : 0 < length front = some_taken done front h r some in
+    let before : before_next h.last ≡ last_from 0 front = ap before_next r.last ∙ before_last front in
     record {
-      some = omega arith;
-      used = sym (ap (λ (n : ℕ). bytes_of_bits 0 n piece) count) ∙ (sym (ap (bytes_of_bits 0 (length bits)) whole) ∙ (reach ∙ size));
-      last = sym (before ∙ (last_is 0 front there ∙ (ap (λ (n : ℕ). slice_index front (n - 1)) size ∙ item_of_front piece s.at (s.at - 1) (omega arith))));
-      sound = ap (sound_after 0) (sym whole) ∙ sound_of_all bits front (drop s.at piece) s.bits stands.read;
+      some = there;
+      used = reach_of done _ front rest r.stands there;
+      last = item_of_first front rest (length front - 1) (omega arith) ∙ (sym (last_is 0 front there) ∙ sym before);
+      sound = sound_of_all done front rest h r;
     }
 
 -- whether the stuffing is broken, by the bytes that follow
-broken_behind : (s : Source) → Taken s → s.at ≤ length s.piece.now → (n : ℕ) → length (sound_after (before_next s.bits.last) (drop s.at s.piece.now)) ≡ n
-    → (packed_bits s.piece.now).broken_at ≡ (if nat_lt (s.at + n) (length s.piece.now) then Some (s.at + n) else None)
-broken_behind s t within n e =
-    let piece = s.piece.now in
-    let size : length (sound_after 0 piece) ≡ s.at + n = omega (arith, ap (λ (l : List ℕ). length l) t.sound, length-append (take s.at piece) (sound_after (before_next s.bits.last) (drop s.at piece)), length-take s.at piece) in
+broken_behind : (front rest : List ℕ) (done : List Bool) (h : Hand) → Taken front rest done h → (n : ℕ) → length (sound_after (before_next h.last) rest) ≡ n
+    → (packed_bits (front ++ rest)).broken_at ≡ (if nat_lt (length front + n) (length (front ++ rest)) then Some (length front + n) else None)
+broken_behind front rest done h t n e =
+    let size : length (sound_after 0 (front ++ rest)) ≡ length front + n = omega (arith, ap (λ (l : List ℕ). length l) t.sound, length-append front (sound_after (before_next h.last) rest)) in
     rw size refl
 
--- What is answered: the bytes that are closed, or what stops the source.
-abbrev pub ClosesBy : Source → BitOut → Type 0
-ClosesBy s out = ((out ≡ Bit false) × (closes s ≡ Ok (s.at + closing_after (before_next s.bits.last)))) ⊎ ((stop : Stop) × (bit_answer out ≡ Err stop) × (closes s ≡ Err stop))
+-- What is answered: the bytes that are closed, or what stops the reader.
+abbrev pub ClosesBy : List ℕ → List ℕ → List Bool → Hand → BitOut → Type 0
+ClosesBy front rest done h out =
+    let closes = closed_after (front ++ rest) (bytes_of_bits 0 (length done) (front ++ rest)) in
+    ((out ≡ Bit false) × (closes ≡ Ok (length front + closing_after (before_next h.last)))) ⊎ ((stop : Stop) × (bit_answer out ≡ Err stop) × (closes ≡ Err stop))
 
 -- the answer where the last byte isn't FF
-closed_at_once : (s : Source) (out : BitOut) → Taken s → (before_next s.bits.last == 255) ≡ false → out ≡ closing_answer (before_next s.bits.last) (drop s.at s.piece.now) → ClosesBy s out
-closed_at_once s out t e a =
-    let f : (slice_index s.piece.now (s.at - 1) == 255) ≡ false = ap (λ (n : ℕ). n == 255) t.last ∙ e in
+closed_at_once : (front rest : List ℕ) (done : List Bool) (h : Hand) (out : BitOut) → Taken front rest done h → (before_next h.last == 255) ≡ false → out ≡ closing_answer (before_next h.last) rest → ClosesBy front rest done h out
+closed_at_once front rest done h out t e a =
+    let f : (slice_index (front ++ rest) (length front - 1) == 255) ≡ false = ap (λ (n : ℕ). n == 255) t.last ∙ e in
     let b : out ≡ Bit false = rw e at a in
-    let z : s.at + 0 ≡ s.at = omega arith in
+    let z : length front + 0 ≡ length front = omega arith in
     inl (b, rw (t.used, f, e, z) refl)
 
 -- the answer where it is, by the bytes that follow
-closed_behind : (s : Source) (out : BitOut) (rest : List ℕ) → Taken s → s.at ≤ length s.piece.now → (before_next s.bits.last == 255) ≡ true → drop s.at s.piece.now ≡ rest → out ≡ closing_by rest → ClosesBy s out
+closed_behind : (front rest : List ℕ) (done : List Bool) (h : Hand) (out : BitOut) → Taken front rest done h → (before_next h.last == 255) ≡ true → out ≡ closing_by rest → ClosesBy front rest done h out
 unfolding sound_after
-closed_behind s out [] t within e d a =
-    let piece = s.piece.now in
-    let f : (slice_index piece (s.at - 1) == 255) ≡ true = ap (λ (n : ℕ). n == 255) t.last ∙ e in
-    let size : length piece ≡ s.at = omega (arith, ap (λ (l : List ℕ). length l) d, length-drop s.at piece) in
-    let none : length (sound_after (before_next s.bits.last) (drop s.at piece)) ≡ 0 = rw d refl in
-    let g : nat_lt s.at (length piece) ≡ false = le-ltb s.at (length piece) (omega arith) in
-    let h : nat_lt (s.at + 0) (length piece) ≡ false = le-ltb (s.at + 0) (length piece) (omega arith) in
-    let k : (packed_bits piece).broken_at ≡ None = broken_behind s t within 0 none ∙ (rw h refl) in
+closed_behind front [] done h out t e a =
+    let bytes = front ++ [] in
+    let f : (slice_index bytes (length front - 1) == 255) ≡ true = ap (λ (n : ℕ). n == 255) t.last ∙ e in
+    let size : length bytes ≡ length front = omega (arith, length-append front []) in
+    let g : nat_lt (length front) (length bytes) ≡ false = le-ltb (length front) (length bytes) (omega arith) in
+    let m : nat_lt (length front + 0) (length bytes) ≡ false = le-ltb (length front + 0) (length bytes) (omega arith) in
+    let k : (packed_bits bytes).broken_at ≡ None = broken_behind front [] done h t 0 refl ∙ (rw m refl) in
     inr (StopNeed, ap bit_answer a, rw (t.used, f, g) (ap (λ (o : Option ℕ). Err (stop_at o)) k))
-closed_behind s out (b ∷ more) t within e d a =
-    let piece = s.piece.now in
-    let f : (slice_index piece (s.at - 1) == 255) ≡ true = ap (λ (n : ℕ). n == 255) t.last ∙ e in
-    let size : s.at < length piece = omega (arith, ap (λ (l : List ℕ). length l) d, length-drop s.at piece) in
-    let next : slice_index piece s.at ≡ b = let z : s.at + 0 ≡ s.at = omega arith in sym (get_or-drop s.at piece 0 0 ∙ ap (slice_index piece) z) ∙ ap (λ (l : List ℕ). slice_index l 0) d in
-    let g : nat_lt s.at (length piece) ≡ true = lt-ltb s.at (length piece) size in
+closed_behind front (b ∷ more) done h out t e a =
+    let bytes = front ++ b ∷ more in
+    let f : (slice_index bytes (length front - 1) == 255) ≡ true = ap (λ (n : ℕ). n == 255) t.last ∙ e in
+    let size : length front < length bytes = omega (arith, length-append front (b ∷ more)) in
+    let next : slice_index bytes (length front) ≡ b = item_at front b more in
+    let g : nat_lt (length front) (length bytes) ≡ true = lt-ltb (length front) (length bytes) size in
     elim (leb_tells 128 b) [
       | inl u ↦
-          let none : length (sound_after (before_next s.bits.last) (drop s.at piece)) ≡ 0 = rw (d, e, u.0) refl in
-          let h : nat_lt (s.at + 0) (length piece) ≡ true = lt-ltb (s.at + 0) (length piece) (omega arith) in
-          let k : (packed_bits piece).broken_at ≡ Some (s.at + 0) = broken_behind s t within 0 none ∙ (rw h refl) in
-          let low : nat_lt (slice_index piece s.at) 128 ≡ false = rw next (le-ltb b 128 u.1) in
+          let none : length (sound_after (before_next h.last) (b ∷ more)) ≡ 0 = rw (e, u.0) refl in
+          let m : nat_lt (length front + 0) (length bytes) ≡ true = lt-ltb (length front + 0) (length bytes) (omega arith) in
+          let k : (packed_bits bytes).broken_at ≡ Some (length front + 0) = broken_behind front (b ∷ more) done h t 0 none ∙ (rw m refl) in
+          let low : nat_lt (slice_index bytes (length front)) 128 ≡ false = rw next (le-ltb b 128 u.1) in
           let c : out ≡ Stuffed = rw u.0 at a in
           inr (StopBad WhyStuffed, ap bit_answer c, rw (t.used, f, g, low) (ap (λ (o : Option ℕ). Err (stop_at o)) k))
       | inr u ↦
-          let low : nat_lt (slice_index piece s.at) 128 ≡ true = rw next (lt-ltb b 128 u.1) in
+          let low : nat_lt (slice_index bytes (length front)) 128 ≡ true = rw next (lt-ltb b 128 u.1) in
           let c : out ≡ Bit false = rw u.0 at a in
           inl (c, rw (t.used, f, g, low, e) refl)
     ]
 
-pub closes_by : (s : Source) (out : BitOut) → Stands s → 0 < given_by s → out ≡ closing_answer (before_next s.bits.last) (drop s.at s.piece.now) → ClosesBy s out
-closes_by s out stands some a =
-    let t = taken s stands some in
-    elim (eqb_tells (before_next s.bits.last) 255) [
-      | inl e ↦ closed_behind s out (drop s.at s.piece.now) t stands.within e.0 refl (rw e.0 at a)
-      | inr e ↦ closed_at_once s out t e.0 a
+closes_by : (front rest : List ℕ) (done : List Bool) (h : Hand) (out : BitOut) → HasDrawn done front h → 0 < length done → out ≡ closing_answer (before_next h.last) rest → ClosesBy front rest done h out
+closes_by front rest done h out r some a =
+    let t = taken front rest done h r some in
+    elim (eqb_tells (before_next h.last) 255) [
+      | inl e ↦ closed_behind front rest done h out t e.0 (rw e.0 at a)
+      | inr e ↦ closed_at_once front rest done h out t e.0 a
     ]
 
+-- the answer for all bytes that came
+source_closes : (before : List ℕ) (done : List Bool) (s : Source) (out : BitOut) → IsFree s.bits → StandsAt before done s → 0 < length done → out ≡ closing_answer (before_next s.bits.last) (drop s.at s.piece.now)
+    → ClosesBy (taken_of before s) (drop s.at s.piece.now) done s.bits out
+source_closes before done s out free stands some a =
+    closes_by (taken_of before s) (drop s.at s.piece.now) done s.bits out (drawn_free done (taken_of before s) s.bits free stands.read) some a
+
 -- what is answered where a bit closes them
-pub closed_ok : (s : Source) (out : BitOut) (b : Bool) (end : ℕ) → ClosesBy s out → bit_answer out ≡ Ok b → (out ≡ Bit false → end ≡ s.at + closing_after (before_next s.bits.last)) → Ok end ≡ closes s
-closed_ok s out b end (inl t) e past = ap Ok (past t.0) ∙ sym t.1
-closed_ok s out b end (inr t) e past = absurd (let f : Ok b ≡ Err t.0 = sym e ∙ t.1 in cc)
+pub closed_ok : (before : List ℕ) (done : List Bool) (s : Source) (out : BitOut) (b : Bool) (end : ℕ) → s.at ≤ length s.piece.now → IsFree s.bits → StandsAt before done s → 0 < length done → out ≡ closing_answer (before_next s.bits.last) (drop s.at s.piece.now)
+    → bit_answer out ≡ Ok b → (out ≡ Bit false → end ≡ s.at + closing_after (before_next s.bits.last)) → Closes before done s (Ok end)
+closed_ok before done s out b end within free stands some a e past = elim (source_closes before done s out free stands some a) [
+  | inl t ↦
+      let all = taken_and_rest before s.piece.now s.at in
+      let size : length (taken_of before s) ≡ length before + s.at = omega (arith, length-append before (take s.at s.piece.now), length-take s.at s.piece.now) in
+      let P : List ℕ → Type 0 = λ l. closed_after l (bytes_of_bits 0 (length done) l) ≡ Ok (length (taken_of before s) + closing_after (before_next s.bits.last)) in
+      let there : length before + end ≡ length (taken_of before s) + closing_after (before_next s.bits.last) = omega (arith, size, past t.0) in
+      ap Ok there ∙ sym (subst P all t.1)
+  | inr t ↦ absurd (let f : Ok b ≡ Err t.0 = sym e ∙ t.1 in cc)
+]
 
 same_error : (x y : Stop) → ◌≡◌ {A = Result Bool Stop} (Err x) (Err y) → x ≡ y
 same_error x y e = cc
 
 -- and where none does
-pub closed_err : (s : Source) (out : BitOut) (stop : Stop) → ClosesBy s out → bit_answer out ≡ Err stop → Err stop ≡ closes s
-closed_err s out stop (inl t) e = absurd (let f : Ok false ≡ Err stop = sym (ap bit_answer t.0) ∙ e in cc)
-closed_err s out stop (inr t) e = let same : stop ≡ t.0 = same_error stop t.0 (sym e ∙ t.1) in ap Err same ∙ sym t.2
+pub closed_err : (before : List ℕ) (done : List Bool) (s : Source) (out : BitOut) (stopped : Stop) → IsFree s.bits → StandsAt before done s → 0 < length done → out ≡ closing_answer (before_next s.bits.last) (drop s.at s.piece.now)
+    → bit_answer out ≡ Err stopped → Closes before done s (Err stopped)
+closed_err before done s out stopped free stands some a e = elim (source_closes before done s out free stands some a) [
+  | inl t ↦ absurd (let f : Ok false ≡ Err stopped = sym (ap bit_answer t.0) ∙ e in cc)
+  | inr t ↦
+      let all = taken_and_rest before s.piece.now s.at in
+      let same : stopped ≡ t.0 = same_error stopped t.0 (sym e ∙ t.1) in
+      let P : List ℕ → Type 0 = λ l. closed_after l (bytes_of_bits 0 (length done) l) ≡ Err t.0 in
+      ap Err same ∙ sym (subst P all t.2)
+]

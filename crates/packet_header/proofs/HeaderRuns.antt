@@ -13,74 +13,25 @@ use Rattle.codestream_model.proofs.PackingLemmas.{last_after, carried-append}
 use Rattle.codestream_model.proofs.BytesLemmas.{sound_split}
 use Rattle.codestream_model.proofs.InverseLemmas.{got_parts}
 use Rattle.codestream_model.proofs.GridsBack.{grids_say}
-use Rattle.packet_header.specs.Standing.{Stands, given_by, left}
 use Rattle.packet_header.specs.Answers.{why_of, stop_at, block_of, out_at, Tells}
-use Rattle.packet_header.specs.Closing.{closed_after, closes}
-use Rattle.packet_header.specs.Seats.{StopsSo, BlocksRead}
+use Rattle.packet_header.specs.Closing.{closed_after}
 use Rattle.packet_header.specs.Headers.{ReadsHeader, out_of}
 use Rattle.packet_header.specs.declared.block.Block.{Block}
 use Rattle.packet_header.specs.declared.refusal.HeaderWhy.{HeaderWhy}
 use Rattle.packet_header.specs.declared.refusal.HeaderWhy.TheVariants as reason
 use Rattle.packet_header.specs.declared.refusal.HeaderOut.{HeaderOut}
 use Rattle.packet_header.specs.declared.refusal.HeaderOut.TheVariants as out
-use Rattle.packet_header.specs.declared.source.Source.{Source}
 use Rattle.packet_header.specs.declared.refusal.Stop.{Stop}
-use Rattle.packet_header.proofs.Standings.{given_length}
 use Rattle.packet_header.proofs.Closings.{item_of_front}
 
 -- what is read of a header takes a bit
-shorter : (gs : List values.Grid) (bits : List Bool) (out : List values.Block) (rest : List Bool) → HaveOwnBands gs → read_bits gs bits ≡ Got out rest → length rest < length bits
+pub shorter : (gs : List values.Grid) (bits : List Bool) (out : List values.Block) (rest : List Bool) → HaveOwnBands gs → read_bits gs bits ≡ Got out rest → length rest < length bits
 unfolding read_bits
 shorter gs [] out rest bands e = absurd (cc)
 shorter gs (false ∷ bits) out rest bands e = omega (arith, ap (λ (l : List Bool). length l) ((got_parts [] out bits rest e).1))
 shorter gs (true ∷ bits) out rest bands e =
     let r = grids_say gs bits out rest bands e in
     omega (arith, ap (λ (l : List Bool). length l) r.1, length-append r.0 rest, ap (λ (l : List Bool). length l) r.2.whole)
-
--- how many bits a source has given, by those that are left
-given_by_left : (s : Source) → Stands s → (given_by s ≤ length (packed_bits s.piece.now).bits) × (given_by s ≡ length (packed_bits s.piece.now).bits - length (left s))
-given_by_left s stands =
-    let bits = (packed_bits s.piece.now).bits in
-    let h : given_by s ≤ length bits = omega (arith, given_length s.piece.now s.at s.bits stands, length-take (given_by s) bits) in
-    (h, omega (arith, length-drop (given_by s) bits))
-
--- a source before its first bit
-all_left : (s : Source) → given_by s ≡ 0 → left s ≡ (packed_bits s.piece.now).bits
-all_left s e = ap (λ (n : ℕ). drop n (packed_bits s.piece.now).bits) e
-
--- the code-blocks of a header were read: a bit was given
-pub some_given : (gs : List values.Grid) (old new : Source) (held now : List Block) → HaveOwnBands gs → given_by old ≡ 0 → BlocksRead (read_bits gs (left old)) old new held now → 0 < given_by new
-some_given gs old new held now bands none a =
-    let less : length (left new) < length (left old) = shorter gs (left old) (map block_of a.added) (left new) bands a.reads in
-    let all : length (left old) ≡ length (packed_bits new.piece.now).bits = ap (λ (l : List Bool). length l) (all_left old none) ∙ ap (λ (l : List ℕ). length (packed_bits l).bits) (sym a.bytes) in
-    let n = given_by_left new a.stands in
-    omega (arith, n.1)
-
--- and the header is answered
-pub header_read : (gs : List values.Grid) (bytes : List ℕ) (old new : Source) (held now : List Block) (got : Result ℕ Stop) → old.piece.now ≡ bytes → given_by old ≡ 0 → BlocksRead (read_bits gs (left old)) old new held now
-    → got ≡ closes new → ReadsHeader (read_bits gs (packed_bits bytes).bits) bytes held now got
-header_read gs bytes old new held now got same none a e =
-    let there : new.piece.now ≡ bytes = a.bytes ∙ same in
-    let all : left old ≡ (packed_bits bytes).bits = all_left old none ∙ ap (λ (l : List ℕ). (packed_bits l).bits) same in
-    let r : read_bits gs (packed_bits bytes).bits ≡ Got (map block_of a.added) (left new) = ap (read_bits gs) (sym all) ∙ a.reads in
-    let n : given_by new ≡ length (packed_bits bytes).bits - length (left new) = (given_by_left new a.stands).1 ∙ ap (λ (l : List ℕ). length (packed_bits l).bits - length (left new)) there in
-    let close : got ≡ closed_after bytes (bytes_of_bits 0 (length (packed_bits bytes).bits - length (left new)) bytes) =
-    e ∙ (ap (λ (l : List ℕ). closed_after l (bytes_of_bits 0 (given_by new) l)) there ∙ ap (λ (k : ℕ). closed_after bytes (bytes_of_bits 0 k bytes)) n) in
-    let P : Read (List values.Block) → Type 0 = λ x. ReadsHeader x bytes held now got in
-    subst P (sym r) (a.added, a.grown, refl, close)
-
--- or what stops it
-stopped_by : (r : Read (List values.Block)) (bytes : List ℕ) (old : Source) (held now : List Block) (stopped : Stop) → old.piece.now ≡ bytes → StopsSo r old stopped → ReadsHeader r bytes held now (Err stopped)
-stopped_by (Got blocks rest) bytes old held now stopped same a = absurd a
-stopped_by AtEnd bytes old held now stopped same a = ap Err (a ∙ ap (λ (l : List ℕ). stop_at (packed_bits l).broken_at) same)
-stopped_by (Refused why) bytes old held now stopped same a = ap Err a
-
-pub header_stops : (gs : List values.Grid) (bytes : List ℕ) (old : Source) (held now : List Block) (stopped : Stop) → old.piece.now ≡ bytes → given_by old ≡ 0 → StopsSo (read_bits gs (left old)) old stopped
-    → ReadsHeader (read_bits gs (packed_bits bytes).bits) bytes held now (Err stopped)
-header_stops gs bytes old held now stopped same none a =
-    let all : left old ≡ (packed_bits bytes).bits = all_left old none ∙ ap (λ (l : List ℕ). (packed_bits l).bits) same in
-    let P : List Bool → Type 0 = λ l. ReadsHeader (read_bits gs l) bytes held now (Err stopped) in
-    subst P all (stopped_by (read_bits gs (left old)) bytes old held now stopped same a)
 
 -- bits reach into as many bytes of a front that carries them
 reach_in_front : (before n : ℕ) (front more : List ℕ) → 1 ≤ n → n ≤ length (carried_after before front) → bytes_of_bits before n (front ++ more) ≡ bytes_of_bits before n front

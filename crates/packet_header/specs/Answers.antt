@@ -7,6 +7,8 @@ use Rattle.stuffed_bits.specs.declared.bit_in.BitOut.{BitOut}
 use Rattle.stuffed_bits.specs.declared.bit_in.BitOut.TheVariants as bits
 use Rattle.stuffed_bits.specs.declared.numbers.NumberOut.{NumberOut}
 use Rattle.stuffed_bits.specs.declared.numbers.NumberOut.TheVariants as number
+use Rattle.stuffed_bits.specs.declared.runs.RunOut.{RunOut}
+use Rattle.stuffed_bits.specs.declared.runs.RunOut.TheVariants as run
 use Rattle.tag_tree.specs.declared.tree.TreeOut.{TreeOut}
 use Rattle.tag_tree.specs.declared.tree.TreeOut.TheVariants as tree
 use Rattle.packet_header.specs.declared.block.Block.{Block}
@@ -20,11 +22,6 @@ use Rattle.packet_header.specs.declared.refusal.Stop.TheVariants as stop
 -- a code-block
 abbrev pub block_of : Block → values.Block
 block_of b = record { band = b.band; col = b.col; row = b.row; planes = b.planes; passes = b.passes; cleanup = b.cleanup; refine = b.refine }
-
--- a code-block that was read, or what stopped the reader
-abbrev pub block_answer : Result Block Stop → Result values.Block Stop
-block_answer (Ok b) = Ok (block_of b)
-block_answer (Err stopped) = Err stopped
 
 -- a reason
 abbrev pub why_of : HeaderRefusal → HeaderWhy
@@ -55,7 +52,13 @@ number_answer (number.Number n) = Ok n
 number_answer number.Need = Err stop.Need
 number_answer number.Stuffed = Err (stop.Bad why.Stuffed)
 
--- and of a leaf's label
+-- What is read of a run of equal bits.
+abbrev pub run_answer : RunOut → Result ℕ Stop
+run_answer (run.Run n) = Ok n
+run_answer run.Need = Err stop.Need
+run_answer run.Stuffed = Err (stop.Bad why.Stuffed)
+
+-- What is read of a leaf's label.
 abbrev pub leaf_answer : TreeOut → Result ℕ Stop
 leaf_answer (tree.Value label) = Ok label
 leaf_answer tree.Need = Err stop.Need

@@ -1,10 +1,11 @@
-pub mod Standing
 pub mod Answers
-pub mod Reads
-pub mod Runs
-pub mod Closing
+pub mod Moves
+pub mod Steps
+pub mod Leaves
 pub mod Seats
-pub mod Trees
+pub mod Walks
+pub mod Blocks
+pub mod Closing
 pub mod Headers
 pub mod Marked
 pub mod Puts

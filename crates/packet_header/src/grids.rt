@@ -1,21 +1,17 @@
-//! The code-blocks of a header, read grid by grid.
-ghost use Rattle.std.specs.Prelude.{◌≡◌, ◌≤◌, ◌<◌, ◌+◌, ◌*◌, ℕ, List, [], ◌∷◌, map, length, vec_len, vec_capacity};
-ghost use Rattle.codestream_model.specs.Packet.{block_count};
-ghost use Rattle.codestream_model.specs.PacketHeader.{HaveOwnBands};
-ghost use Rattle.codestream_model.specs.StuffedBits.{packed_bits};
-ghost use Rattle.codestream_model.specs.TagTrees.{Seat, seats, root_level, levels_from};
-ghost use Rattle.codestream_model.specs.PacketHeaderReading.{Node, read_seats, read_grids, read_bits};
+//! The code-blocks of a grid, read in raster order and each step by step.
+ghost use Rattle.std.specs.Prelude.{◌≡◌, ◌≤◌, ◌<◌, ◌+◌, ◌*◌, false, [], length, IfOk, IfErr, vec_len, vec_capacity};
+ghost use Rattle.stuffed_bits.specs.Hand.{IsOfRun};
 ghost use Rattle.precinct_geometry.specs.Spans.{grid_of};
 ghost use Rattle.tag_tree.specs.LeafReading.{IsSameShape};
-ghost use Rattle.packet_header.specs.Standing.{Stands, left};
-ghost use Rattle.packet_header.specs.Trees.{levels_of};
-ghost use Rattle.packet_header.specs.Headers.{ReadsHeader};
-ghost use Rattle.packet_header.specs.Seats.{KnowsBoth, HasGrid, row_seats, ReadsSeats, ReadsGrids};
+ghost use Rattle.packet_header.specs.Steps.{Fits, IsOfBlock};
+ghost use Rattle.packet_header.specs.Seats.{KnowsBoth, HasGrid, IsReady, ReadsBlock, KeepsBlock, FitsSeat};
+ghost use Rattle.packet_header.specs.Walks.{seats_from, WalksOn};
 
 use crate::block::Block;
-use crate::pieces::block;
+use crate::pieces::values;
 use crate::refusal::Stop;
 use crate::source::Source;
+use crate::step::Step;
 use precinct_geometry::Grid;
 use tag_tree::Tree;
 
@@ -28,150 +24,159 @@ pub struct TagTrees {
     pub planes: Tree,
 }
 
+/// Reads the values of a code-block from a step on, and keeps it.
+#[inline(always)]
+fn keep_values(
+    step: &mut Step,
+    band: u8,
+    col: u32,
+    row: u32,
+    source: &mut Source<'_>,
+    blocks: &mut Vec<Block>,
+) -> Result<(), Stop>
+    requires within { source.old.at ≤ length source.old.piece.now }
+    requires fits { Fits step.old source.old.bits.part }
+    requires of_block { IsOfBlock step.old }
+    requires room { vec_len blocks.old < vec_capacity blocks.old }
+    ensures read { KeepsBlock (record { band = band; col = col; row = row }) step.old step.new source.old source.new blocks.old.items blocks.new.items result }
+    ensures fits { FitsSeat step.new source.new.bits.part result }
+    ensures within { source.new.at ≤ length source.new.piece.now }
+    ensures piece { source.new.piece.now ≡ source.old.piece.now }
+    ensures few { vec_len blocks.new ≤ vec_len blocks.old + 1 }
+    ensures kept { IfErr result (λ _. vec_len blocks.new ≡ vec_len blocks.old) }
+    ensures capacity { vec_capacity blocks.new ≡ vec_capacity blocks.old }
+{
+    let block = values(step, band, col, row, source)?;
+    *step = Step::Inclusion;
+    blocks.push_reserved(block);
+    Ok(())
+}
+
 impl TagTrees {
-    /// Reads what a header says of a code-block, and keeps it if it is included.
-    fn read_seat(
+    /// Makes these the trees of a grid, of whose nodes none is known.
+    pub fn reset(&mut self, cols: u32, rows: u32)
+        requires inclusion { cols * rows ≤ self.old.inclusion.leaves }
+        requires planes { cols * rows ≤ self.old.planes.leaves }
+        ensures grid { HasGrid self.new cols rows }
+        ensures empty { KnowsBoth self.new [] [] }
+        ensures inclusion { self.new.inclusion.leaves ≡ self.old.inclusion.leaves }
+        ensures planes { self.new.planes.leaves ≡ self.old.planes.leaves }
+    {
+        self.inclusion.reset(cols, rows);
+        self.planes.reset(cols, rows);
+    }
+
+    /// Reads an included code-block from its zero bit-planes on, and keeps it.
+    fn read_planes(
         &mut self,
+        step: &mut Step,
         band: u8,
         col: u32,
         row: u32,
         source: &mut Source<'_>,
         blocks: &mut Vec<Block>,
     ) -> Result<(), Stop>
-        requires stands { Stands source.old }
-        requires known { (inclusion : List Node) × (planes : List Node) × KnowsBoth self.old inclusion planes }
+        requires within { source.old.at ≤ length source.old.piece.now }
+        requires ready { IsReady self.old (record { band = band; col = col; row = row }) Step.Planes source.old }
+        requires own { IsOfRun false source.old.bits.part }
         requires same { HasGrid self.old self.old.inclusion.cols self.old.inclusion.rows }
         requires col_in { col < self.old.inclusion.cols }
         requires row_in { row < self.old.inclusion.rows }
         requires room { vec_len blocks.old < vec_capacity blocks.old }
-        ensures read { (inclusion planes : List Node) → KnowsBoth self.old inclusion planes → ReadsSeats (levels_of self.old.inclusion) (record { band = band; col = col; row = row } ∷ []) inclusion planes self.new source.old source.new blocks.old.items blocks.new.items result }
-        ensures inclusion { IsSameShape self.old.inclusion self.new.inclusion }
+        ensures read { ReadsBlock self.old self.new (record { band = band; col = col; row = row }) Step.Planes step.new source.old source.new blocks.old.items blocks.new.items result }
+        ensures fits { FitsSeat step.new source.new.bits.part result }
+        ensures inclusion { self.new.inclusion ≡ self.old.inclusion }
         ensures planes { IsSameShape self.old.planes self.new.planes }
+        ensures within { source.new.at ≤ length source.new.piece.now }
+        ensures piece { source.new.piece.now ≡ source.old.piece.now }
         ensures few { vec_len blocks.new ≤ vec_len blocks.old + 1 }
+        ensures kept { IfErr result (λ _. vec_len blocks.new ≡ vec_len blocks.old) }
         ensures capacity { vec_capacity blocks.new ≡ vec_capacity blocks.old }
     {
-        let label = source.inclusion(&mut self.inclusion, col, row)?;
-        if label != 0 {
-            return Ok(());
-        }
+        *step = Step::Planes;
         let planes = source.planes(&mut self.planes, col, row)?;
-        let block = block(band, col, row, planes, source)?;
-        blocks.push_reserved(block);
-        Ok(())
+        *step = Step::Passes { planes };
+        keep_values(step, band, col, row, source, blocks)
     }
 
-    /// Reads what a header says of the code-blocks in a row of a grid.
-    fn read_row(
+    /// Reads the code-block at a position from a step on, and keeps it if it is included.
+    #[inline(always)]
+    fn read_seat(
         &mut self,
-        grid: Grid,
+        step: &mut Step,
+        band: u8,
+        col: u32,
         row: u32,
         source: &mut Source<'_>,
         blocks: &mut Vec<Block>,
     ) -> Result<(), Stop>
-        requires stands { Stands source.old }
-        requires known { (inclusion : List Node) × (planes : List Node) × KnowsBoth self.old inclusion planes }
-        requires same { HasGrid self.old grid.cols grid.rows }
-        requires row_in { row < grid.rows }
-        requires room { vec_len blocks.old + grid.cols ≤ vec_capacity blocks.old }
-        ensures read { (inclusion planes : List Node) → KnowsBoth self.old inclusion planes → ReadsSeats (levels_of self.old.inclusion) (row_seats grid.band grid.cols row) inclusion planes self.new source.old source.new blocks.old.items blocks.new.items result }
+        requires within { source.old.at ≤ length source.old.piece.now }
+        requires ready { IsReady self.old (record { band = band; col = col; row = row }) step.old source.old }
+        requires fits { Fits step.old source.old.bits.part }
+        requires same { HasGrid self.old self.old.inclusion.cols self.old.inclusion.rows }
+        requires col_in { col < self.old.inclusion.cols }
+        requires row_in { row < self.old.inclusion.rows }
+        requires room { vec_len blocks.old < vec_capacity blocks.old }
+        ensures read { ReadsBlock self.old self.new (record { band = band; col = col; row = row }) step.old step.new source.old source.new blocks.old.items blocks.new.items result }
+        ensures fits { FitsSeat step.new source.new.bits.part result }
         ensures inclusion { IsSameShape self.old.inclusion self.new.inclusion }
         ensures planes { IsSameShape self.old.planes self.new.planes }
-        ensures few { vec_len blocks.new ≤ vec_len blocks.old + grid.cols }
+        ensures within { source.new.at ≤ length source.new.piece.now }
+        ensures piece { source.new.piece.now ≡ source.old.piece.now }
+        ensures few { vec_len blocks.new ≤ vec_len blocks.old + 1 }
+        ensures kept { IfErr result (λ _. vec_len blocks.new ≡ vec_len blocks.old) }
         ensures capacity { vec_capacity blocks.new ≡ vec_capacity blocks.old }
     {
-        for col in 0..grid.cols {
-            self.read_seat(grid.band, col, row, source, blocks)?;
+        match *step {
+            Step::Inclusion => {
+                let label = source.inclusion(&mut self.inclusion, col, row)?;
+                if label != 0 {
+                    return Ok(());
+                }
+                self.read_planes(step, band, col, row, source, blocks)
+            }
+            Step::Planes => self.read_planes(step, band, col, row, source, blocks),
+            _ => keep_values(step, band, col, row, source, blocks),
         }
-        Ok(())
     }
 
-    /// Reads what a header says of the code-blocks of a grid.
-    fn read_grid(
+    /// Reads what is left of the code-blocks of a grid, from a place on.
+    pub fn read_grid(
         &mut self,
         grid: Grid,
+        col: &mut u32,
+        row: &mut u32,
+        step: &mut Step,
         source: &mut Source<'_>,
         blocks: &mut Vec<Block>,
     ) -> Result<(), Stop>
-        requires stands { Stands source.old }
-        requires inclusion_room { grid.cols * grid.rows ≤ self.old.inclusion.leaves }
-        requires planes_room { grid.cols * grid.rows ≤ self.old.planes.leaves }
-        requires room { vec_len blocks.old + grid.cols * grid.rows ≤ vec_capacity blocks.old }
-        ensures read { ReadsGrids (read_seats (levels_from (root_level (grid_of grid))) (seats (grid_of grid)) [] [] (left source.old)) source.old source.new blocks.old.items blocks.new.items result }
-        ensures inclusion { self.new.inclusion.leaves ≡ self.old.inclusion.leaves }
-        ensures planes { self.new.planes.leaves ≡ self.old.planes.leaves }
-        ensures few { vec_len blocks.new ≤ vec_len blocks.old + grid.cols * grid.rows }
+        requires within { source.old.at ≤ length source.old.piece.now }
+        requires ready { IsReady self.old (record { band = grid.band; col = col.old; row = row.old }) step.old source.old }
+        requires fits { Fits step.old source.old.bits.part }
+        requires same { HasGrid self.old grid.cols grid.rows }
+        requires col_in { col.old < grid.cols }
+        requires none { seats_from (grid_of grid) row.old col.old ≡ [] → step.old ≡ Step.Inclusion }
+        requires room { vec_len blocks.old + length (seats_from (grid_of grid) row.old col.old) ≤ vec_capacity blocks.old }
+        ensures read { WalksOn self.old self.new (seats_from (grid_of grid) row.old col.old) (seats_from (grid_of grid) row.new col.new) step.old step.new source.old source.new blocks.old.items blocks.new.items result }
+        ensures whole { IfOk result (λ _. seats_from (grid_of grid) row.new col.new ≡ []) }
+        ensures fits { FitsSeat step.new source.new.bits.part result }
+        ensures col_in { col.new < grid.cols }
+        ensures none { seats_from (grid_of grid) row.new col.new ≡ [] → step.new ≡ Step.Inclusion }
+        ensures few { vec_len blocks.new + length (seats_from (grid_of grid) row.new col.new) ≤ vec_len blocks.old + length (seats_from (grid_of grid) row.old col.old) }
+        ensures inclusion { IsSameShape self.old.inclusion self.new.inclusion }
+        ensures planes { IsSameShape self.old.planes self.new.planes }
+        ensures within { source.new.at ≤ length source.new.piece.now }
+        ensures piece { source.new.piece.now ≡ source.old.piece.now }
         ensures capacity { vec_capacity blocks.new ≡ vec_capacity blocks.old }
     {
-        self.inclusion.reset(grid.cols, grid.rows);
-        self.planes.reset(grid.cols, grid.rows);
-        for row in 0..grid.rows {
-            self.read_row(grid, row, source, blocks)?;
+        while *row < grid.rows {
+            self.read_seat(step, grid.band, *col, *row, source, blocks)?;
+            *col += 1;
+            if *col == grid.cols {
+                *col = 0;
+                *row += 1;
+            }
         }
         Ok(())
-    }
-
-    /// Reads what a header says of the code-blocks of grids.
-    fn read_grids(
-        &mut self,
-        grids: &[Grid],
-        source: &mut Source<'_>,
-        blocks: &mut Vec<Block>,
-    ) -> Result<(), Stop>
-        requires stands { Stands source.old }
-        requires inclusion_room { block_count (map grid_of grids.now) ≤ self.old.inclusion.leaves }
-        requires planes_room { block_count (map grid_of grids.now) ≤ self.old.planes.leaves }
-        requires room { vec_len blocks.old + block_count (map grid_of grids.now) ≤ vec_capacity blocks.old }
-        ensures read { ReadsGrids (read_grids (map grid_of grids.now) (left source.old)) source.old source.new blocks.old.items blocks.new.items result }
-        ensures inclusion { self.new.inclusion.leaves ≡ self.old.inclusion.leaves }
-        ensures planes { self.new.planes.leaves ≡ self.old.planes.leaves }
-        ensures capacity { vec_capacity blocks.new ≡ vec_capacity blocks.old }
-    {
-        for grid in grids {
-            self.read_grid(*grid, source, blocks)?;
-        }
-        Ok(())
-    }
-
-    /// Reads the code-blocks of a header: none where the first bit is 0, else those of the grids.
-    fn read_bits(
-        &mut self,
-        grids: &[Grid],
-        source: &mut Source<'_>,
-        blocks: &mut Vec<Block>,
-    ) -> Result<(), Stop>
-        requires stands { Stands source.old }
-        requires inclusion_room { block_count (map grid_of grids.now) ≤ self.old.inclusion.leaves }
-        requires planes_room { block_count (map grid_of grids.now) ≤ self.old.planes.leaves }
-        requires room { vec_len blocks.old + block_count (map grid_of grids.now) ≤ vec_capacity blocks.old }
-        ensures read { ReadsGrids (read_bits (map grid_of grids.now) (left source.old)) source.old source.new blocks.old.items blocks.new.items result }
-        ensures inclusion { self.new.inclusion.leaves ≡ self.old.inclusion.leaves }
-        ensures planes { self.new.planes.leaves ≡ self.old.planes.leaves }
-        ensures capacity { vec_capacity blocks.new ≡ vec_capacity blocks.old }
-    {
-        if source.bit()? {
-            self.read_grids(grids, source, blocks)?;
-        }
-        Ok(())
-    }
-
-    /// Reads a header at the front of bytes, keeps its code-blocks, and answers how many bytes it has.
-    pub fn read_header(
-        &mut self,
-        grids: &[Grid],
-        bytes: &[u8],
-        blocks: &mut Vec<Block>,
-    ) -> Result<usize, Stop>
-        requires own_bands { HaveOwnBands (map grid_of grids.now) }
-        requires inclusion_room { block_count (map grid_of grids.now) ≤ self.old.inclusion.leaves }
-        requires planes_room { block_count (map grid_of grids.now) ≤ self.old.planes.leaves }
-        requires room { vec_len blocks.old + block_count (map grid_of grids.now) ≤ vec_capacity blocks.old }
-        ensures read { ReadsHeader (read_bits (map grid_of grids.now) (packed_bits bytes.now).bits) bytes.now blocks.old.items blocks.new.items result }
-        ensures inclusion { self.new.inclusion.leaves ≡ self.old.inclusion.leaves }
-        ensures planes { self.new.planes.leaves ≡ self.old.planes.leaves }
-        ensures capacity { vec_capacity blocks.new ≡ vec_capacity blocks.old }
-    {
-        let mut source = Source::new(bytes);
-        self.read_bits(grids, &mut source, blocks)?;
-        source.close()
     }
 }

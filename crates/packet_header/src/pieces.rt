@@ -1,82 +1,29 @@
-//! The values of an included code-block (T.800 B.10.6 and B.10.7, with the segments of T.814).
-ghost use Rattle.std.specs.Prelude.{◌≡◌, ◌≤◌, IfOk};
-ghost use Rattle.codestream_model.specs.TagTrees.{Seat};
+//! The values of an included code-block (T.800 B.10.6 and B.10.7, with the segments of T.814), each
+//! with what follows it, so that reading can begin at any of them.
+ghost use Rattle.std.specs.Prelude.{◌≡◌, ◌≤◌, true, length};
 ghost use Rattle.codestream_model.specs.HeaderPieces.{refine_width};
-ghost use Rattle.codestream_model.specs.PacketHeaderReading.{read_passes, read_lblock, read_cleanup, read_refine, read_block};
-ghost use Rattle.packet_header.specs.Standing.{Stands, left};
-ghost use Rattle.packet_header.specs.Reads.{Reads};
-ghost use Rattle.packet_header.specs.Answers.{block_answer};
+ghost use Rattle.stuffed_bits.specs.Hand.{IsFree, IsOfNumber, IsOfRun};
+ghost use Rattle.packet_header.specs.Steps.{Fits, FitsBlock, IsOfBlock, ReadsFrom, position_of};
 
 use crate::block::Block;
 use crate::refusal::{HeaderWhy, Stop};
 use crate::source::Source;
+use crate::step::Step;
 
-/// The least Lblock (T.800 B.10.7.1),
+/// The least Lblock (T.800 B.10.7.1).
 pub const LEAST_LBLOCK: u8 = 3;
 
-/// and the greatest.
-const MOST_LENGTH_BITS: u8 = 24;
+/// As many ones as this are too many for an Lblock: it would pass 24.
+const MOST_ONES: u8 = 22;
 
-/// A cleanup segment has at least so many bytes,
+/// A cleanup segment has at least this many bytes.
 pub const LEAST_CLEANUP: u32 = 2;
 
-/// and fewer than so many.
+/// A cleanup segment has fewer bytes than this.
 pub const CLEANUP_END: u32 = 65_535;
 
-/// A refinement segment has fewer than so many bytes.
+/// A refinement segment has fewer bytes than this.
 pub const REFINE_END: u32 = 2_047;
-
-/// Reads the number of coding passes, 1 to 3: `0`, `10` or `1100`.
-pub fn passes(source: &mut Source<'_>) -> Result<u8, Stop>
-    requires { Stands source.old }
-    ensures read { Reads (read_passes (left source.old)) source.old source.new result }
-    ensures some { IfOk result (λ n. 1 ≤ n) }
-    ensures few { IfOk result (λ n. n ≤ 3) }
-{
-    if !source.bit()? {
-        return Ok(1);
-    }
-    if !source.bit()? {
-        return Ok(2);
-    }
-    let third = source.bit()?;
-    let fourth = source.bit()?;
-    if third || fourth {
-        return Err(Stop::Bad(HeaderWhy::Passes));
-    }
-    Ok(3)
-}
-
-/// Reads an Lblock that is at least this one: a one for each number that it is above it, and a zero.
-pub fn lblock_from(least: u8, source: &mut Source<'_>) -> Result<u8, Stop>
-    requires stands { Stands source.old }
-    requires low { least ≤ 24 }
-    ensures read { Reads (read_lblock least (left source.old)) source.old source.new result }
-    ensures few { IfOk result (λ n. n ≤ 24) }
-{
-    let most = MOST_LENGTH_BITS - least + 1;
-    let ones = source.run(true, most)?;
-    if ones >= most {
-        return Err(Stop::Bad(HeaderWhy::LengthBits));
-    }
-    Ok(least + ones)
-}
-
-/// Reads the length of a cleanup segment, 2 to 65,534, in so many bits.
-pub fn cleanup(lblock: u8, source: &mut Source<'_>) -> Result<u32, Stop>
-    requires stands { Stands source.old }
-    requires low { lblock ≤ 24 }
-    ensures read { Reads (read_cleanup lblock (left source.old)) source.old source.new result }
-{
-    let length = source.number(lblock)?;
-    if length < LEAST_CLEANUP {
-        return Err(Stop::Bad(HeaderWhy::CleanupShort));
-    }
-    if length >= CLEANUP_END {
-        return Err(Stop::Bad(HeaderWhy::CleanupLong));
-    }
-    Ok(length)
-}
 
 /// The bits of a refinement length.
 pub fn refine_bits(passes: u8, lblock: u8) -> u8
@@ -87,44 +34,224 @@ pub fn refine_bits(passes: u8, lblock: u8) -> u8
     if passes == 2 { lblock } else { lblock + 1 }
 }
 
-/// Reads the length of a refinement segment, 0 to 2,046; with one pass there is none.
-pub fn refine(passes: u8, lblock: u8, source: &mut Source<'_>) -> Result<u32, Stop>
-    requires stands { Stands source.old }
-    requires low { lblock ≤ 24 }
-    ensures read { Reads (read_refine passes lblock (left source.old)) source.old source.new result }
+/// Reads the values from the first bit of the number of passes on: `0` is 1.
+#[inline(always)]
+fn first_passes(known: Block, step: &mut Step, source: &mut Source<'_>) -> Result<Block, Stop>
+    requires within { source.old.at ≤ length source.old.piece.now }
+    requires free { IsFree source.old.bits }
+    ensures reads { ReadsFrom (position_of known) (Step.Passes known.planes) step.new source.old source.new result }
+    ensures fits { FitsBlock step.new source.new.bits.part result }
+    ensures within { source.new.at ≤ length source.new.piece.now }
+    ensures piece { source.new.piece.now ≡ source.old.piece.now }
 {
-    if passes <= 1 {
-        return Ok(0);
+    *step = Step::Passes {
+        planes: known.planes,
+    };
+    if source.bit()? {
+        return more_passes(known, step, source);
     }
-    let length = source.number(refine_bits(passes, lblock))?;
+    lblock(Block { passes: 1, ..known }, step, source)
+}
+
+/// Reads the values from the second bit on, after a 1: `10` is 2.
+#[inline(always)]
+fn more_passes(known: Block, step: &mut Step, source: &mut Source<'_>) -> Result<Block, Stop>
+    requires within { source.old.at ≤ length source.old.piece.now }
+    requires free { IsFree source.old.bits }
+    ensures reads { ReadsFrom (position_of known) (Step.MorePasses known.planes) step.new source.old source.new result }
+    ensures fits { FitsBlock step.new source.new.bits.part result }
+    ensures within { source.new.at ≤ length source.new.piece.now }
+    ensures piece { source.new.piece.now ≡ source.old.piece.now }
+{
+    *step = Step::MorePasses {
+        planes: known.planes,
+    };
+    if source.bit()? {
+        return last_passes(known, step, source);
+    }
+    lblock(Block { passes: 2, ..known }, step, source)
+}
+
+/// Reads the values from the last two bits of the number of passes on, after two ones: `1100` is 3.
+#[inline(always)]
+fn last_passes(known: Block, step: &mut Step, source: &mut Source<'_>) -> Result<Block, Stop>
+    requires within { source.old.at ≤ length source.old.piece.now }
+    requires own { IsOfNumber 2 source.old.bits.part }
+    ensures reads { ReadsFrom (position_of known) (Step.LastPasses known.planes) step.new source.old source.new result }
+    ensures fits { FitsBlock step.new source.new.bits.part result }
+    ensures within { source.new.at ≤ length source.new.piece.now }
+    ensures piece { source.new.piece.now ≡ source.old.piece.now }
+{
+    *step = Step::LastPasses {
+        planes: known.planes,
+    };
+    let code = source.number(2)?;
+    if code != 0 {
+        return Err(Stop::Bad(HeaderWhy::Passes));
+    }
+    lblock(Block { passes: 3, ..known }, step, source)
+}
+
+/// Reads the values from Lblock on: a one for each number that it is above 3, and a zero.
+#[inline(always)]
+fn lblock(known: Block, step: &mut Step, source: &mut Source<'_>) -> Result<Block, Stop>
+    requires within { source.old.at ≤ length source.old.piece.now }
+    requires own { IsOfRun true source.old.bits.part }
+    ensures reads { ReadsFrom (position_of known) (Step.Lblock known.planes known.passes) step.new source.old source.new result }
+    ensures fits { FitsBlock step.new source.new.bits.part result }
+    ensures within { source.new.at ≤ length source.new.piece.now }
+    ensures piece { source.new.piece.now ≡ source.old.piece.now }
+{
+    *step = Step::Lblock {
+        planes: known.planes,
+        passes: known.passes,
+    };
+    let ones = source.run(true, MOST_ONES)?;
+    if ones >= MOST_ONES {
+        return Err(Stop::Bad(HeaderWhy::LengthBits));
+    }
+    cleanup(known, LEAST_LBLOCK + ones, step, source)
+}
+
+/// Reads the lengths of the segments, from that of the cleanup segment on: 2 to 65,534.
+#[inline(always)]
+fn cleanup(
+    known: Block,
+    lblock: u8,
+    step: &mut Step,
+    source: &mut Source<'_>,
+) -> Result<Block, Stop>
+    requires within { source.old.at ≤ length source.old.piece.now }
+    requires low { lblock ≤ 24 }
+    requires own { IsOfNumber lblock source.old.bits.part }
+    ensures reads { ReadsFrom (position_of known) (Step.Cleanup known.planes known.passes lblock) step.new source.old source.new result }
+    ensures fits { FitsBlock step.new source.new.bits.part result }
+    ensures within { source.new.at ≤ length source.new.piece.now }
+    ensures piece { source.new.piece.now ≡ source.old.piece.now }
+{
+    *step = Step::Cleanup {
+        planes: known.planes,
+        passes: known.passes,
+        lblock,
+    };
+    let length = source.number(lblock)?;
+    if length < LEAST_CLEANUP {
+        return Err(Stop::Bad(HeaderWhy::CleanupShort));
+    }
+    if length >= CLEANUP_END {
+        return Err(Stop::Bad(HeaderWhy::CleanupLong));
+    }
+    refine(
+        Block {
+            cleanup: length,
+            ..known
+        },
+        lblock,
+        step,
+        source,
+    )
+}
+
+/// Reads the length of the refinement segment, 0 to 2,046; with one pass there is none.
+#[inline(always)]
+fn refine(known: Block, lblock: u8, step: &mut Step, source: &mut Source<'_>) -> Result<Block, Stop>
+    requires within { source.old.at ≤ length source.old.piece.now }
+    requires low { lblock ≤ 24 }
+    requires none { known.passes ≤ 1 → IsFree source.old.bits }
+    requires own { 2 ≤ known.passes → IsOfNumber (refine_width known.passes lblock) source.old.bits.part }
+    ensures reads { ReadsFrom (position_of known) (Step.Refine known.planes known.passes lblock known.cleanup) step.new source.old source.new result }
+    ensures fits { FitsBlock step.new source.new.bits.part result }
+    ensures within { source.new.at ≤ length source.new.piece.now }
+    ensures piece { source.new.piece.now ≡ source.old.piece.now }
+{
+    if known.passes <= 1 {
+        return Ok(Block { refine: 0, ..known });
+    }
+    *step = Step::Refine {
+        planes: known.planes,
+        passes: known.passes,
+        lblock,
+        cleanup: known.cleanup,
+    };
+    let length = source.number(refine_bits(known.passes, lblock))?;
     if length >= REFINE_END {
         return Err(Stop::Bad(HeaderWhy::RefineLong));
     }
-    Ok(length)
+    Ok(Block {
+        refine: length,
+        ..known
+    })
 }
 
-/// Reads the rest of an included code-block, whose place and zero bit-planes are known.
-pub fn block(
+/// Reads the values of a code-block from a step on, and keeps in it where the reading stops.
+#[inline(always)]
+pub fn values(
+    step: &mut Step,
     band: u8,
     col: u32,
     row: u32,
-    planes: u8,
     source: &mut Source<'_>,
 ) -> Result<Block, Stop>
-    requires { Stands source.old }
-    ensures { Reads (read_block (record { band = band; col = col; row = row }) planes (left source.old)) source.old source.new (block_answer result) }
+    requires within { source.old.at ≤ length source.old.piece.now }
+    requires fits { Fits step.old source.old.bits.part }
+    requires of_block { IsOfBlock step.old }
+    ensures reads { ReadsFrom (record { band = band; col = col; row = row }) step.old step.new source.old source.new result }
+    ensures fits { FitsBlock step.new source.new.bits.part result }
+    ensures within { source.new.at ≤ length source.new.piece.now }
+    ensures piece { source.new.piece.now ≡ source.old.piece.now }
 {
-    let passes = passes(source)?;
-    let lblock = lblock_from(LEAST_LBLOCK, source)?;
-    let cleanup = cleanup(lblock, source)?;
-    let refine = refine(passes, lblock, source)?;
-    Ok(Block {
+    let none = Block {
         band,
         col,
         row,
-        planes,
-        passes,
-        cleanup,
-        refine,
-    })
+        planes: 0,
+        passes: 0,
+        cleanup: 0,
+        refine: 0,
+    };
+    match *step {
+        Step::Passes { planes } => first_passes(Block { planes, ..none }, step, source),
+        Step::MorePasses { planes } => more_passes(Block { planes, ..none }, step, source),
+        Step::LastPasses { planes } => last_passes(Block { planes, ..none }, step, source),
+        Step::Lblock { planes, passes } => lblock(
+            Block {
+                planes,
+                passes,
+                ..none
+            },
+            step,
+            source,
+        ),
+        Step::Cleanup {
+            planes,
+            passes,
+            lblock,
+        } => cleanup(
+            Block {
+                planes,
+                passes,
+                ..none
+            },
+            lblock,
+            step,
+            source,
+        ),
+        Step::Refine {
+            planes,
+            passes,
+            lblock,
+            cleanup,
+        } => refine(
+            Block {
+                planes,
+                passes,
+                cleanup,
+                ..none
+            },
+            lblock,
+            step,
+            source,
+        ),
+        Step::Inclusion | Step::Planes => unreachable!(),
+    }
 }

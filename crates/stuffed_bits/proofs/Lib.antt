@@ -4,6 +4,7 @@ pub mod ReadLemmas
 pub mod NumberLemmas
 pub mod PartLemmas
 pub mod PartAnswers
+pub mod PartsRead
 pub mod FirstRuns
 pub mod RunAnswers
 pub mod PackedLemmas

@@ -6,7 +6,7 @@ use Rattle.std.proofs.lemmas.List.{append-nil, length-append, length-drop}
 use Rattle.codestream_model.specs.StuffedBits.{number_bits, packed_bits}
 use Rattle.codestream_model.proofs.BitLemmas.{number_bits-length, number_of_bits}
 use Rattle.stuffed_bits.specs.Hand.{Hand}
-use Rattle.stuffed_bits.specs.BitsRead.{HasRead, answer_by, answer_after}
+use Rattle.stuffed_bits.specs.BitsRead.{HasDrawn, answer_by, answer_after}
 use Rattle.stuffed_bits.specs.NumbersRead.{number_after}
 use Rattle.stuffed_bits.specs.declared.bit_in.BitOut.TheVariants as bit
 use Rattle.stuffed_bits.specs.declared.numbers.NumberOut.TheVariants.{Number, Need, Stuffed}
@@ -51,7 +51,7 @@ number_breaks width done v bits bytes piece at mid few onward e =
 
 -- a number whose bits were all read
 pub number_is : (width v : ℕ) (bits : List Bool) (bytes piece : List ℕ) (at end : ℕ) (h : Hand) → v < 2 ^ width → at ≤ end
-    → HasRead (bits ++ number_bits width v) (bytes ++ slice_range piece at end) h → Number v ≡ number_after width bits (packed_bits (bytes ++ drop at piece))
+    → HasDrawn (bits ++ number_bits width v) (bytes ++ slice_range piece at end) h → Number v ≡ number_after width bits (packed_bits (bytes ++ drop at piece))
 number_is width v bits bytes piece at end h small onward r =
     let t = front_behind bits (number_bits width v) bytes piece at end h onward r in
     let behind : drop (length bits) (packed_bits (bytes ++ drop at piece)).bits ≡ number_bits width v ++ t.0 = t.1 in
@@ -59,7 +59,7 @@ number_is width v bits bytes piece at end h small onward r =
     rw (behind, long) (ap Number (sym (number_of_bits width v small t.0)))
 
 -- before the first part
-pub none_done : (width v : ℕ) (bits : List Bool) (bytes piece : List ℕ) (at : ℕ) (h : Hand) → HasRead bits bytes h → HasRead (bits ++ number_bits (width - width) v) (bytes ++ slice_range piece at at) h
+pub none_done : (width v : ℕ) (bits : List Bool) (bytes piece : List ℕ) (at : ℕ) (h : Hand) → HasDrawn bits bytes h → HasDrawn (bits ++ number_bits (width - width) v) (bytes ++ slice_range piece at at) h
 unfolding number_bits
 none_done width v bits bytes piece at h r =
     let z : width - width ≡ 0 = omega arith in
@@ -68,16 +68,16 @@ none_done width v bits bytes piece at h r =
 
 -- further bits were read, of a further part of the piece
 pub joins_on : (bits some more : List Bool) (bytes piece : List ℕ) (at mid end : ℕ) (h : Hand) → at ≤ mid → mid ≤ end
-    → HasRead ((bits ++ some) ++ more) ((bytes ++ slice_range piece at mid) ++ slice_range piece mid end) h → HasRead (bits ++ (some ++ more)) (bytes ++ slice_range piece at end) h
+    → HasDrawn ((bits ++ some) ++ more) ((bytes ++ slice_range piece at mid) ++ slice_range piece mid end) h → HasDrawn (bits ++ (some ++ more)) (bytes ++ slice_range piece at end) h
 joins_on bits some more bytes piece at mid end h t u r =
-    let P : List Bool → Type 0 = λ l. HasRead l (bytes ++ slice_range piece at end) h in
-    let Q : List ℕ → Type 0 = λ l. HasRead ((bits ++ some) ++ more) l h in
+    let P : List Bool → Type 0 = λ l. HasDrawn l (bytes ++ slice_range piece at end) h in
+    let Q : List ℕ → Type 0 = λ l. HasDrawn ((bits ++ some) ++ more) l h in
     subst P (append_assoc bits some more) (subst Q (ranges_join bytes piece at mid end t u) r)
 
 -- a part more of a number
 pub part_joins : (done count v part : ℕ) (bits : List Bool) (bytes piece : List ℕ) (at mid end : ℕ) (h : Hand) → part < 2 ^ count → at ≤ mid → mid ≤ end
-    → HasRead ((bits ++ number_bits done v) ++ number_bits count part) ((bytes ++ slice_range piece at mid) ++ slice_range piece mid end) h
-    → HasRead (bits ++ number_bits (done + count) (v * 2 ^ count + part)) (bytes ++ slice_range piece at end) h
+    → HasDrawn ((bits ++ number_bits done v) ++ number_bits count part) ((bytes ++ slice_range piece at mid) ++ slice_range piece mid end) h
+    → HasDrawn (bits ++ number_bits (done + count) (v * 2 ^ count + part)) (bytes ++ slice_range piece at end) h
 part_joins done count v part bits bytes piece at mid end h small t u r =
-    let P : List Bool → Type 0 = λ l. HasRead (bits ++ l) (bytes ++ slice_range piece at end) h in
+    let P : List Bool → Type 0 = λ l. HasDrawn (bits ++ l) (bytes ++ slice_range piece at end) h in
     subst P (sym (joined_bits done count v part small)) (joins_on bits (number_bits done v) (number_bits count part) bytes piece at mid end h t u r)

@@ -9,7 +9,7 @@ use Rattle.codestream_model.specs.StuffedBits.{number_bits, width_after}
 use Rattle.codestream_model.proofs.BitLemmas.{higher_bits, number_bits-length}
 use Rattle.stuffed_bits.specs.Stands.{StandIn, last_from, before_next, Begun}
 use Rattle.stuffed_bits.specs.Hand.{Hand}
-use Rattle.stuffed_bits.specs.BitsRead.{HasRead, HasBegun, next_of}
+use Rattle.stuffed_bits.specs.BitsRead.{HasDrawn, HasBegun, next_of}
 use Rattle.stuffed_bits.specs.NumbersRead.{high_part}
 use Rattle.stuffed_bits.specs.declared.bit_in.Next.TheVariants.{Byte}
 use Rattle.stuffed_bits.proofs.StandLemmas.{before_last, last_of-push, begins}
@@ -66,8 +66,8 @@ hand_bits k left v h =
     ap (λ (n : ℕ). number_bits n v) s ∙ (split_bits j k v ∙ ap (λ (l : List Bool). l ++ number_bits j v) low)
 
 -- the next byte is begun
-pub begins_next : (bits : List Bool) (bytes : List ℕ) (h : Hand) (b : ℕ) → h.left ≡ 0 → b < 256 → (before_next h.last ≡ 255 → b < 128) → HasRead bits bytes h
-    → HasBegun bits (bytes ++ b ∷ []) (took (before_next h.last) b)
+pub begins_next : (bits : List Bool) (bytes : List ℕ) (h : Hand) (b : ℕ) → h.left ≡ 0 → b < 256 → (before_next h.last ≡ 255 → b < 128) → HasDrawn bits bytes h
+    → HasBegun bits (bytes ++ b ∷ []) (took h b)
 unfolding number_bits
 begins_next bits bytes h b none small low r =
     let same : before_next h.last ≡ last_from 0 bytes = ap before_next r.last ∙ before_last bytes in
@@ -86,21 +86,21 @@ takes_part bits front spare bytes some s = record {
 
 -- the first bits in hand are given
 pub gives_front : (bits front : List Bool) (bytes : List ℕ) (h : Hand) (k : ℕ) → 0 < length front → number_bits h.left (before_next h.last) ≡ front ++ number_bits k (before_next h.last) → HasBegun bits bytes h
-    → HasRead (bits ++ front) bytes (record h { left = k })
+    → HasDrawn (bits ++ front) bytes (record h { left = k })
 gives_front bits front bytes h k some e r =
     let P : List Bool → Type 0 = λ l. Begun bits l bytes in
     record { last = r.last; stands = takes_part bits front (number_bits k (before_next h.last)) bytes some (subst P e r.begun) }
 
 -- as a part of a number
 pub gives_part : (bits : List Bool) (bytes : List ℕ) (h : Hand) (k : ℕ) → 0 < k → k ≤ h.left → HasBegun bits bytes h
-    → HasRead (bits ++ number_bits k (high_part k h.left (before_next h.last))) bytes (record h { left = h.left - k })
+    → HasDrawn (bits ++ number_bits k (high_part k h.left (before_next h.last))) bytes (record h { left = h.left - k })
 gives_part bits bytes h k some few r =
     let v = before_next h.last in
     gives_front bits (number_bits k (high_part k h.left v)) bytes h (h.left - k) (omega (arith, number_bits-length k (high_part k h.left v))) (hand_bits k h.left v few) r
 
 -- the next byte of a piece is begun
 pub begins_piece : (bits : List Bool) (bytes piece : List ℕ) (at b w : ℕ) (h : Hand) → h.left ≡ 0 → IsBytes piece → next_of (before_next h.last) (drop at piece) ≡ Byte b → w ≡ width_after (before_next h.last)
-    → HasRead bits bytes h → HasBegun bits (bytes ++ slice_range piece at (at + 1)) (record { last = Some b; left = w })
+    → HasDrawn bits bytes h → HasBegun bits (bytes ++ slice_range piece at (at + 1)) (record h { last = Some b; left = w })
 begins_piece bits bytes piece at b w h none each e width r =
     let next = byte_next (before_next h.last) (drop at piece) b e in
     let one : slice_range piece at (at + 1) ≡ b ∷ [] = range_one piece next.0 at b next.1 in

@@ -11,7 +11,7 @@ use Rattle.codestream_model.proofs.HeaderLemmas.{stuffed_tail, bytes_reached}
 use Rattle.codestream_model.proofs.OneWayLemmas.{same_front}
 use Rattle.stuffed_bits.specs.Stands.{last_from, last_of, before_next}
 use Rattle.stuffed_bits.specs.Hand.{Hand}
-use Rattle.stuffed_bits.specs.BitsRead.{HasRead, answer_after, next_of}
+use Rattle.stuffed_bits.specs.BitsRead.{HasDrawn, answer_after, next_of}
 use Rattle.stuffed_bits.specs.declared.bit_in.BitOut.TheVariants.{Bit, Need, Stuffed}
 use Rattle.stuffed_bits.specs.declared.bit_in.Next.TheVariants.{Byte, Need as NoByte, Stuffed as Broken}
 use Rattle.stuffed_bits.proofs.StandLemmas.{same_last, before_last, last-push, bytes-push, stuffed-push, stuffed_less}
@@ -25,8 +25,8 @@ first_bit zero v h = absurd (omega arith)
 first_bit (suc n) v h = let e : suc n - 1 ≡ n = omega arith in rw e refl
 
 -- what is in hand behind a byte that was just taken
-abbrev pub took : ℕ → ℕ → Hand
-took before b = record { last = Some b; left = width_after before }
+abbrev pub took : Hand → ℕ → Hand
+took h b = record h { last = Some b; left = width_after (before_next h.last) }
 
 -- stuffed bytes are sound, whatever follows them
 sound_of_front : (before : ℕ) (bytes more : List ℕ) → (before ≡ 255 → slice_index bytes 0 < 128) → IsStuffed bytes → sound_after before (bytes ++ more) ≡ bytes ++ sound_after (last_from before bytes) more
@@ -40,13 +40,13 @@ sound_of_front before (b ∷ bytes) more first stuffed =
     rw sound (ap (λ (l : List ℕ). b ∷ l) (sound_of_front b bytes more (stuffed 0) (stuffed_tail b bytes stuffed)))
 
 -- what is sound of the bytes that were taken and of those that follow
-pub sound_of_all : (bits : List Bool) (bytes more : List ℕ) (h : Hand) → HasRead bits bytes h → sound_after 0 (bytes ++ more) ≡ bytes ++ sound_after (before_next h.last) more
+pub sound_of_all : (bits : List Bool) (bytes more : List ℕ) (h : Hand) → HasDrawn bits bytes h → sound_after 0 (bytes ++ more) ≡ bytes ++ sound_after (before_next h.last) more
 sound_of_all bits bytes more h r =
     let same : before_next h.last ≡ last_from 0 bytes = ap before_next r.last ∙ before_last bytes in
     rw same (sound_of_front 0 bytes more (λ e. absurd (omega arith)) r.stands.stuffed)
 
 -- the bits that bytes carry are those that were given, those in hand, and those of the bytes that follow
-pub bits_of_all : (bits : List Bool) (bytes more : List ℕ) (h : Hand) → HasRead bits bytes h
+pub bits_of_all : (bits : List Bool) (bytes more : List ℕ) (h : Hand) → HasDrawn bits bytes h
     → (packed_bits (bytes ++ more)).bits ≡ bits ++ (number_bits h.left (before_next h.last) ++ carried_after (before_next h.last) (sound_after (before_next h.last) more))
 bits_of_all bits bytes more h r =
     let last = before_next h.last in
@@ -58,7 +58,7 @@ bits_of_all bits bytes more h r =
     ∙ (ap (λ (l : List Bool). l ++ behind) r.stands.filled ∙ append_assoc bits (number_bits h.left last) behind)))
 
 -- the bits that follow those that were given
-pub bits_behind : (bits : List Bool) (bytes more : List ℕ) (h : Hand) → HasRead bits bytes h
+pub bits_behind : (bits : List Bool) (bytes more : List ℕ) (h : Hand) → HasDrawn bits bytes h
     → drop (length bits) (packed_bits (bytes ++ more)).bits ≡ number_bits h.left (before_next h.last) ++ carried_after (before_next h.last) (sound_after (before_next h.last) more)
 bits_behind bits bytes more h r =
     let last = before_next h.last in
@@ -66,7 +66,7 @@ bits_behind bits bytes more h r =
     ap (drop (length bits)) (bits_of_all bits bytes more h r) ∙ drop_at bits behind (length bits) refl
 
 -- the bits that bytes and a piece carry, where so many of them were read
-pub bits_through : (bits front : List Bool) (bytes piece : List ℕ) (at end : ℕ) (h : Hand) → at ≤ end → HasRead (bits ++ front) (bytes ++ slice_range piece at end) h
+pub bits_through : (bits front : List Bool) (bytes piece : List ℕ) (at end : ℕ) (h : Hand) → at ≤ end → HasDrawn (bits ++ front) (bytes ++ slice_range piece at end) h
     → (rest : List Bool) × ((packed_bits (bytes ++ drop at piece)).bits ≡ bits ++ (front ++ rest))
 bits_through bits front bytes piece at end h onward r =
     let last = before_next h.last in
@@ -77,14 +77,14 @@ bits_through bits front bytes piece at end h onward r =
     )
 
 -- those behind the ones that were read before
-pub front_behind : (bits front : List Bool) (bytes piece : List ℕ) (at end : ℕ) (h : Hand) → at ≤ end → HasRead (bits ++ front) (bytes ++ slice_range piece at end) h
+pub front_behind : (bits front : List Bool) (bytes piece : List ℕ) (at end : ℕ) (h : Hand) → at ≤ end → HasDrawn (bits ++ front) (bytes ++ slice_range piece at end) h
     → (rest : List Bool) × (drop (length bits) (packed_bits (bytes ++ drop at piece)).bits ≡ front ++ rest)
 front_behind bits front bytes piece at end h onward r =
     let t = bits_through bits front bytes piece at end h onward r in
     (t.0, ap (drop (length bits)) t.1 ∙ drop_at bits (front ++ t.0) (length bits) refl)
 
 -- and no others, where none is left
-pub no_more_behind : (bits front : List Bool) (bytes piece : List ℕ) (at end : ℕ) (h : Hand) → at ≤ end → HasRead (bits ++ front) (bytes ++ slice_range piece at end) h
+pub no_more_behind : (bits front : List Bool) (bytes piece : List ℕ) (at end : ℕ) (h : Hand) → at ≤ end → HasDrawn (bits ++ front) (bytes ++ slice_range piece at end) h
     → drop (length (bits ++ front)) (packed_bits (bytes ++ drop at piece)).bits ≡ [] → drop (length bits) (packed_bits (bytes ++ drop at piece)).bits ≡ front
 no_more_behind bits front bytes piece at end h onward r none =
     let t = bits_through bits front bytes piece at end h onward r in
@@ -93,7 +93,7 @@ no_more_behind bits front bytes piece at end h onward r none =
     ap (drop (length bits)) t.1 ∙ (drop_at bits (front ++ t.0) (length bits) refl ∙ (ap (λ (l : List Bool). front ++ l) rest ∙ append-nil front))
 
 -- a bit that was read is the answer
-pub bit_is : (b : Bool) (bits : List Bool) (bytes piece : List ℕ) (at end : ℕ) (h : Hand) → at ≤ end → HasRead (bits ++ b ∷ []) (bytes ++ slice_range piece at end) h
+pub bit_is : (b : Bool) (bits : List Bool) (bytes piece : List ℕ) (at end : ℕ) (h : Hand) → at ≤ end → HasDrawn (bits ++ b ∷ []) (bytes ++ slice_range piece at end) h
     → Bit b ≡ answer_after bits (packed_bits (bytes ++ drop at piece))
 bit_is b bits bytes piece at end h onward r =
     let t = front_behind bits (b ∷ []) bytes piece at end h onward r in
@@ -137,7 +137,7 @@ byte_next before (b ∷ more) c e =
     )
 
 -- the answer where no byte follows
-pub answer_at_end : (bits : List Bool) (bytes more : List ℕ) (h : Hand) → h.left ≡ 0 → next_of (before_next h.last) more ≡ NoByte → HasRead bits bytes h
+pub answer_at_end : (bits : List Bool) (bytes more : List ℕ) (h : Hand) → h.left ≡ 0 → next_of (before_next h.last) more ≡ NoByte → HasDrawn bits bytes h
     → Need ≡ answer_after bits (packed_bits (bytes ++ more))
 unfolding number_bits carried_after sound_after
 answer_at_end bits bytes more h none e r =
@@ -148,7 +148,7 @@ answer_at_end bits bytes more h none e r =
     rw (behind, whole) refl
 
 -- where a byte follows that breaks the stuffing
-pub answer_broken : (bits : List Bool) (bytes more : List ℕ) (h : Hand) → h.left ≡ 0 → next_of (before_next h.last) more ≡ Broken → HasRead bits bytes h
+pub answer_broken : (bits : List Bool) (bytes more : List ℕ) (h : Hand) → h.left ≡ 0 → next_of (before_next h.last) more ≡ Broken → HasDrawn bits bytes h
     → Stuffed ≡ answer_after bits (packed_bits (bytes ++ more))
 unfolding number_bits carried_after
 answer_broken bits bytes more h none e r =
@@ -171,11 +171,11 @@ some_bytes : (bytes : List ℕ) → IsSome (last_of bytes) → 0 < length bytes
 some_bytes [] h = absurd (cc)
 some_bytes (b ∷ bytes) h = omega arith
 
-pub took_some : (bits : List Bool) (bytes : List ℕ) (h : Hand) → IsSome h.last → HasRead bits bytes h → 0 < length bytes
+pub took_some : (bits : List Bool) (bytes : List ℕ) (h : Hand) → IsSome h.last → HasDrawn bits bytes h → 0 < length bytes
 took_some bits bytes h some r = let P : Option ℕ → Type 0 = λ o. IsSome o in some_bytes bytes (subst P r.last some)
 
 -- bits whose last byte isn't FF are closed by none
-pub closed_by_none : (bits : List Bool) (bytes piece : List ℕ) (at : ℕ) (h : Hand) → IsSome h.last → before_next h.last ≢ 255 → HasRead bits bytes h → Packs bits (bytes ++ slice_range piece at at)
+pub closed_by_none : (bits : List Bool) (bytes piece : List ℕ) (at : ℕ) (h : Hand) → IsSome h.last → before_next h.last ≢ 255 → HasDrawn bits bytes h → Packs bits (bytes ++ slice_range piece at at)
 closed_by_none bits bytes piece at h some other r =
     let same : before_next h.last ≡ last_from 0 bytes = ap before_next r.last ∙ before_last bytes in
     let v = before_next h.last in
@@ -189,7 +189,7 @@ closed_by_none bits bytes piece at h some other r =
 
 -- and those whose last byte is FF by one whose top bit is 0
 pub closed_by_one : (bits : List Bool) (bytes piece : List ℕ) (at b : ℕ) (h : Hand) → IsSome h.last → before_next h.last ≡ 255 → b < 256 → next_of (before_next h.last) (drop at piece) ≡ Byte b
-    → HasRead bits bytes h → Packs bits (bytes ++ slice_range piece at (at + 1))
+    → HasDrawn bits bytes h → Packs bits (bytes ++ slice_range piece at (at + 1))
 closed_by_one bits bytes piece at b h some ff small e r =
     let same : before_next h.last ≡ last_from 0 bytes = ap before_next r.last ∙ before_last bytes in
     let next = byte_next (before_next h.last) (drop at piece) b e in
@@ -210,7 +210,7 @@ first_of_one (suc n) [] e = absurd (omega arith)
 first_of_one (suc n) (b ∷ more) e = (b, more, refl, ap (λ (l : List ℕ). b ∷ l) (nil_from_length (take n more) (omega arith)))
 
 -- where a front of the bytes that follow closes bits whose last byte is FF, it is one byte whose top bit is 0
-pub closed_by_front : (bits : List Bool) (bytes rest : List ℕ) (n : ℕ) (h : Hand) → IsSome h.last → before_next h.last ≡ 255 → HasRead bits bytes h → Packs bits (bytes ++ take n rest)
+pub closed_by_front : (bits : List Bool) (bytes rest : List ℕ) (n : ℕ) (h : Hand) → IsSome h.last → before_next h.last ≡ 255 → HasDrawn bits bytes h → Packs bits (bytes ++ take n rest)
     → (b : ℕ) × (more : List ℕ) × (rest ≡ b ∷ more) × (b < 128)
 closed_by_front bits bytes rest n h some ff r p =
     let same : before_next h.last ≡ last_from 0 bytes = ap before_next r.last ∙ before_last bytes in
@@ -227,13 +227,13 @@ closed_by_front bits bytes rest n h some ff r p =
     (first.0, first.1, first.2, (stuffed_less bytes first.0 (subst P first.3 p.stuffed)).1 (sym same ∙ ff))
 
 -- so nothing closes them where no byte follows, or one that breaks the stuffing
-pub none_closes : (bits : List Bool) (bytes rest : List ℕ) (n : ℕ) (h : Hand) → IsSome h.last → before_next h.last ≡ 255 → next_of (before_next h.last) rest ≡ NoByte → HasRead bits bytes h → Packs bits (bytes ++ take n rest) → ⊥
+pub none_closes : (bits : List Bool) (bytes rest : List ℕ) (n : ℕ) (h : Hand) → IsSome h.last → before_next h.last ≡ 255 → next_of (before_next h.last) rest ≡ NoByte → HasDrawn bits bytes h → Packs bits (bytes ++ take n rest) → ⊥
 none_closes bits bytes rest n h some ff e r p =
     let c = closed_by_front bits bytes rest n h some ff r p in
     let none : rest ≡ [] = none_next (before_next h.last) rest e in
     omega (arith, ap length (sym none ∙ c.2))
 
-pub broken_closes_nothing : (bits : List Bool) (bytes rest : List ℕ) (n : ℕ) (h : Hand) → IsSome h.last → before_next h.last ≡ 255 → next_of (before_next h.last) rest ≡ Broken → HasRead bits bytes h
+pub broken_closes_nothing : (bits : List Bool) (bytes rest : List ℕ) (n : ℕ) (h : Hand) → IsSome h.last → before_next h.last ≡ 255 → next_of (before_next h.last) rest ≡ Broken → HasDrawn bits bytes h
     → Packs bits (bytes ++ take n rest) → ⊥
 broken_closes_nothing bits bytes rest n h some ff e r p =
     let c = closed_by_front bits bytes rest n h some ff r p in

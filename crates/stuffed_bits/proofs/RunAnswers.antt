@@ -5,7 +5,7 @@ use Rattle.std.proofs.lemmas.Bool.{le-leb, lt-leb}
 use Rattle.std.proofs.lemmas.List.{append-nil, replicate-append-replicate}
 use Rattle.codestream_model.specs.StuffedBits.{packed_bits}
 use Rattle.stuffed_bits.specs.Hand.{Hand}
-use Rattle.stuffed_bits.specs.BitsRead.{HasRead, answer_after}
+use Rattle.stuffed_bits.specs.BitsRead.{HasDrawn, answer_after}
 use Rattle.stuffed_bits.specs.RunsRead.{run_bits, IsShort}
 use Rattle.stuffed_bits.specs.declared.bit_in.BitOut.TheVariants as bit
 use Rattle.stuffed_bits.proofs.ReadLemmas.{range_none, no_more_behind}
@@ -23,29 +23,29 @@ ended_run of most m n h =
     rw t (sym (append_assoc (replicate m of) (replicate n of) (not of ∷ [])) ∙ ap (λ (l : List Bool). l ++ not of ∷ []) (replicate-append-replicate m n of))
 
 -- before the first part
-pub none_run : (of : Bool) (bits : List Bool) (bytes piece : List ℕ) (at : ℕ) (h : Hand) → HasRead bits bytes h → HasRead (bits ++ replicate 0 of) (bytes ++ slice_range piece at at) h
+pub none_run : (of : Bool) (bits : List Bool) (bytes piece : List ℕ) (at : ℕ) (h : Hand) → HasDrawn bits bytes h → HasDrawn (bits ++ replicate 0 of) (bytes ++ slice_range piece at at) h
 none_run of bits bytes piece at h r =
     let none : bytes ++ slice_range piece at at ≡ bytes = ap (λ (l : List ℕ). bytes ++ l) (range_none piece at) ∙ append-nil bytes in
     rw (none, append-nil bits) r
 
 -- a part more
 pub run_joins : (of : Bool) (m n : ℕ) (bits : List Bool) (bytes piece : List ℕ) (at mid end : ℕ) (h : Hand) → at ≤ mid → mid ≤ end
-    → HasRead ((bits ++ replicate m of) ++ replicate n of) ((bytes ++ slice_range piece at mid) ++ slice_range piece mid end) h
-    → HasRead (bits ++ replicate (m + n) of) (bytes ++ slice_range piece at end) h
+    → HasDrawn ((bits ++ replicate m of) ++ replicate n of) ((bytes ++ slice_range piece at mid) ++ slice_range piece mid end) h
+    → HasDrawn (bits ++ replicate (m + n) of) (bytes ++ slice_range piece at end) h
 run_joins of m n bits bytes piece at mid end h t u r =
-    let P : List Bool → Type 0 = λ l. HasRead (bits ++ l) (bytes ++ slice_range piece at end) h in
+    let P : List Bool → Type 0 = λ l. HasDrawn (bits ++ l) (bytes ++ slice_range piece at end) h in
     subst P (replicate-append-replicate m n of) (joins_on bits (replicate m of) (replicate n of) bytes piece at mid end h t u r)
 
 -- the last part
 pub run_ends : (of : Bool) (most m n : ℕ) (bits : List Bool) (bytes piece : List ℕ) (at mid end : ℕ) (h : Hand) → m + n < most → at ≤ mid → mid ≤ end
-    → HasRead ((bits ++ replicate m of) ++ (replicate n of ++ not of ∷ [])) ((bytes ++ slice_range piece at mid) ++ slice_range piece mid end) h
-    → HasRead (bits ++ run_bits of most (m + n)) (bytes ++ slice_range piece at end) h
+    → HasDrawn ((bits ++ replicate m of) ++ (replicate n of ++ not of ∷ [])) ((bytes ++ slice_range piece at mid) ++ slice_range piece mid end) h
+    → HasDrawn (bits ++ run_bits of most (m + n)) (bytes ++ slice_range piece at end) h
 run_ends of most m n bits bytes piece at mid end h few t u r =
-    let P : List Bool → Type 0 = λ l. HasRead (bits ++ l) (bytes ++ slice_range piece at end) h in
+    let P : List Bool → Type 0 = λ l. HasDrawn (bits ++ l) (bytes ++ slice_range piece at end) h in
     subst P (ended_run of most m n few) (joins_on bits (replicate m of) (replicate n of ++ not of ∷ []) bytes piece at mid end h t u r)
 
 -- where no bit is left behind the first ones
-pub run_needs : (of : Bool) (most m : ℕ) (bits : List Bool) (bytes piece : List ℕ) (at mid : ℕ) (h : Hand) → m < most → at ≤ mid → HasRead (bits ++ replicate m of) (bytes ++ slice_range piece at mid) h
+pub run_needs : (of : Bool) (most m : ℕ) (bits : List Bool) (bytes piece : List ℕ) (at mid : ℕ) (h : Hand) → m < most → at ≤ mid → HasDrawn (bits ++ replicate m of) (bytes ++ slice_range piece at mid) h
     → answer_after (bits ++ replicate m of) (packed_bits ((bytes ++ slice_range piece at mid) ++ drop mid piece)) ≡ bit.Need
     → IsShort of most (drop (length bits) (packed_bits (bytes ++ drop at piece)).bits) × ((packed_bits (bytes ++ drop at piece)).broken_at ≡ None)
 run_needs of most m bits bytes piece at mid h few onward r e =
@@ -55,7 +55,7 @@ run_needs of most m bits bytes piece at mid h few onward r e =
     ((m, few, no_more_behind bits (replicate m of) bytes piece at mid h onward r n.0), n.1)
 
 -- and the stuffing is broken there
-pub run_breaks : (of : Bool) (most m : ℕ) (bits : List Bool) (bytes piece : List ℕ) (at mid : ℕ) (h : Hand) → m < most → at ≤ mid → HasRead (bits ++ replicate m of) (bytes ++ slice_range piece at mid) h
+pub run_breaks : (of : Bool) (most m : ℕ) (bits : List Bool) (bytes piece : List ℕ) (at mid : ℕ) (h : Hand) → m < most → at ≤ mid → HasDrawn (bits ++ replicate m of) (bytes ++ slice_range piece at mid) h
     → answer_after (bits ++ replicate m of) (packed_bits ((bytes ++ slice_range piece at mid) ++ drop mid piece)) ≡ bit.Stuffed
     → IsShort of most (drop (length bits) (packed_bits (bytes ++ drop at piece)).bits) × IsSome (packed_bits (bytes ++ drop at piece)).broken_at
 run_breaks of most m bits bytes piece at mid h few onward r e =

@@ -1,5 +1,9 @@
 -- What a reader of bits answers where a run of equal bits is read.
-use Rattle.std.specs.Prelude.{◌≡◌, ◌<◌, ◌≤◌, ◌⊎◌, ◌-◌, ◌%◌, ◌^◌, ◌++◌, ℕ, Bool, not, List, [], ◌∷◌, replicate, nat_lt, Option, None, IsSome, if◌then◌else◌}
+use Rattle.std.specs.Prelude.{◌≡◌, ◌<◌, ◌≤◌, ◌⊎◌, ◌-◌, ◌%◌, ◌^◌, ◌++◌, ℕ, Bool, not, List, [], ◌∷◌, length, drop, replicate, nat_lt, Option, None, IsSome, if◌then◌else◌}
+use Rattle.std.specs.List.{slice_range}
+use Rattle.codestream_model.specs.StuffedBits.{packed_bits}
+use Rattle.stuffed_bits.specs.Hand.{Hand}
+use Rattle.stuffed_bits.specs.BitsRead.{HasRead}
 use Rattle.stuffed_bits.specs.declared.runs.RunOut.{RunOut}
 use Rattle.stuffed_bits.specs.declared.runs.RunOut.TheVariants.{Run, Need, Stuffed}
 use Rattle.stuffed_bits.specs.declared.runs.RunPart.{RunPart}
@@ -37,3 +41,18 @@ run_part_bits of (part.Whole n) = replicate n of
 abbrev pub IsRunPartOf : ℕ → RunPart → Type 0
 IsRunPartOf wanted (part.Ended n) = n < wanted
 IsRunPartOf wanted (part.Whole n) = (0 < n) × (n ≤ wanted)
+
+-- A call answers a run by the bits that follow those that were given, whatever these are.
+abbrev pub AnswersRun : Bool → ℕ → Hand → List ℕ → ℕ → RunOut → Type 0
+AnswersRun of most old piece at out =
+    (bits : List Bool) (bytes : List ℕ) → HasRead bits bytes old
+    → IsRun of most (drop (length bits) (packed_bits (bytes ++ drop at piece)).bits) (packed_bits (bytes ++ drop at piece)).broken_at out
+
+-- Where a run is answered, its bits and the one that ends it were given.
+abbrev pub GivesRun : Bool → ℕ → Hand → Hand → List ℕ → ℕ → ℕ → RunOut → Type 0
+GivesRun of most old new piece at end out =
+    (n : ℕ) → out ≡ Run n → (bits : List Bool) (bytes : List ℕ) → HasRead bits bytes old → HasRead (bits ++ run_bits of most n) (bytes ++ slice_range piece at end) new
+
+-- Where a further piece is needed, no bit was given: those that were read of the run are kept.
+abbrev pub KeepsRun : Hand → Hand → List ℕ → ℕ → ℕ → RunOut → Type 0
+KeepsRun old new piece at end out = out ≡ Need → (bits : List Bool) (bytes : List ℕ) → HasRead bits bytes old → HasRead bits (bytes ++ slice_range piece at end) new

@@ -4,8 +4,9 @@ ghost use Rattle.std.specs.List.{slice_range};
 ghost use Rattle.codestream_model.specs.StuffedBits.{Packs, packed_bits, closing_after};
 ghost use Rattle.stuffed_bits.specs.Stands.{before_next};
 ghost use Rattle.stuffed_bits.specs.Hand.{no_byte};
-ghost use Rattle.stuffed_bits.specs.BitsRead.{HasRead, HasBegun, IsEndAt, given, answer_after, closing_answer, next_of, first_of_hand};
+ghost use Rattle.stuffed_bits.specs.BitsRead.{HasDrawn, HasRead, HasBegun, AnswersBit, GivesBit, IsEndAt, given, answer_after, closing_answer, next_of, first_of_hand};
 
+use crate::part::Part;
 use crate::width::{FF, width_after};
 use std::marker::Model;
 
@@ -39,8 +40,10 @@ pub(crate) enum Ready {
 pub struct BitIn {
     /// The last byte that was taken.
     pub(crate) last: Option<u8>,
-    /// How many of its bits, the lowest ones, weren't given yet.
+    /// How many of its bits, the lowest ones, weren't read yet.
     pub(crate) left: u8,
+    /// The bits that were read of a value whose last bit hasn't come.
+    pub(crate) part: Part,
 }
 
 impl Model for BitIn {
@@ -49,7 +52,7 @@ impl Model for BitIn {
 
     ghost Value = { Hand };
 
-    ghost view = { λ b. record { last = b.last; left = b.left } };
+    ghost view = { λ b. record { last = b.last; left = b.left; part = b.part } };
 
     ghost invariant = { λ b. (b.left ≤ 8) × (IsSome b.last ⊎ (b.left ≡ 0)) };
 }
@@ -57,7 +60,8 @@ impl Model for BitIn {
 /// The byte at a place of a piece, if it may follow this one.
 pub(crate) fn next_byte(before: u8, piece: &[u8], at: usize) -> Next
     requires { at ≤ length piece.now }
-    ensures { result ≡ next_of before (drop at piece.now) }
+    ensures next { result ≡ next_of before (drop at piece.now) }
+    ensures whole { result ≡ Next.Need → at ≡ length piece.now }
 {
     if at == piece.len() {
         return Next::Need;
@@ -78,6 +82,7 @@ impl BitIn {
         BitIn {
             last: None,
             left: 0,
+            part: Part::Nothing,
         }
     }
 
@@ -104,12 +109,14 @@ impl BitIn {
     /// Takes the next byte where no bit is in hand.
     pub(crate) fn ready(&mut self, piece: &[u8], at: &mut usize) -> Ready
         requires { at.old ≤ length piece.now }
-        ensures ended { (bits : List Bool) (bytes : List ℕ) → HasRead bits bytes self.old → IsEndAt (answer_after bits (packed_bits (bytes ++ drop at.old piece.now))) result }
-        ensures begun { result ≡ Ready.Yes → (bits : List Bool) (bytes : List ℕ) → HasRead bits bytes self.old → HasBegun bits (bytes ++ slice_range piece.now at.old at.new) self.new }
+        ensures ended { (bits : List Bool) (bytes : List ℕ) → HasDrawn bits bytes self.old → IsEndAt (answer_after bits (packed_bits (bytes ++ drop at.old piece.now))) result }
+        ensures begun { result ≡ Ready.Yes → (bits : List Bool) (bytes : List ℕ) → HasDrawn bits bytes self.old → HasBegun bits (bytes ++ slice_range piece.now at.old at.new) self.new }
         ensures some { result ≡ Ready.Yes → 0 < self.new.left }
         ensures taken { result ≡ Ready.Yes → IsSome self.new.last }
         ensures onward { at.old ≤ at.new }
         ensures within { at.new ≤ length piece.now }
+        ensures kept { self.new.part ≡ self.old.part }
+        ensures whole { result ≡ Ready.Need → at.new ≡ length piece.now }
         ensures unchanged { result ≢ Ready.Yes → (self.new ≡ self.old) × (at.new ≡ at.old) }
     {
         if self.left > 0 {
@@ -130,15 +137,19 @@ impl BitIn {
 
     /// Reads the next bit.
     ///
-    /// `piece` are the bytes at hand, and `at` is the place in them behind the last byte that was taken; it moves past a
-    /// byte that this call takes. A further piece goes on where this one ends.
+    /// `piece` are the bytes at hand, and `at` is the index in them after the last byte that was taken;
+    /// it moves past a byte that this call takes. A further piece goes on where this one ends. No
+    /// number or run is unfinished.
     pub fn bit(&mut self, piece: &[u8], at: &mut usize) -> BitOut
-        requires { at.old ≤ length piece.now }
-        ensures exact { (bits : List Bool) (bytes : List ℕ) → HasRead bits bytes self.old → result ≡ answer_after bits (packed_bits (bytes ++ drop at.old piece.now)) }
-        ensures stands { (bits : List Bool) (bytes : List ℕ) → HasRead bits bytes self.old → HasRead (bits ++ given result) (bytes ++ slice_range piece.now at.old at.new) self.new }
+        requires free { self.old.part ≡ Part.Nothing }
+        requires inside { at.old ≤ length piece.now }
+        ensures exact { AnswersBit self.old piece.now at.old result }
+        ensures stands { GivesBit self.old self.new piece.now at.old at.new result }
         ensures begun { (b : Bool) → result ≡ BitOut.Bit b → IsSome self.new.last }
         ensures onward { at.old ≤ at.new }
         ensures within { at.new ≤ length piece.now }
+        ensures kept { self.new.part ≡ Part.Nothing }
+        ensures whole { result ≡ BitOut.Need → at.new ≡ length piece.now }
         ensures unchanged { given result ≡ [] → (self.new ≡ self.old) × (at.new ≡ at.old) }
     {
         match self.ready(piece, at) {
@@ -154,6 +165,7 @@ impl BitIn {
     /// byte of others. A bit was read before it.
     pub fn close(&mut self, piece: &[u8], at: &mut usize) -> BitOut
         requires begun { IsSome self.old.last }
+        requires free { self.old.part ≡ Part.Nothing }
         requires inside { at.old ≤ length piece.now }
         ensures exact { result ≡ closing_answer (before_next self.old.last) (drop at.old piece.now) }
         ensures packed { result ≡ BitOut.Bit false → (bits : List Bool) (bytes : List ℕ) → HasRead bits bytes self.old → Packs bits (bytes ++ slice_range piece.now at.old at.new) }
@@ -162,6 +174,7 @@ impl BitIn {
         ensures past { result ≡ BitOut.Bit false → at.new ≡ at.old + closing_after (before_next self.old.last) }
         ensures onward { at.old ≤ at.new }
         ensures within { at.new ≤ length piece.now }
+        ensures whole { result ≡ BitOut.Need → at.new ≡ length piece.now }
         ensures unchanged { result ≢ BitOut.Bit false → (self.new ≡ self.old) × (at.new ≡ at.old) }
     {
         let before = self.before();

@@ -3,17 +3,21 @@
 //!
 //! The bits fill bytes from the top. After a byte FF the next byte's top bit is 0 and carries nothing; a last byte FF is
 //! followed by one more such byte. Neither direction takes memory, and neither keeps the bytes: each call is passed them.
+//! Where a piece of bytes ends inside a value, the reader keeps the bits that it has read of it, and the same call goes on
+//! with a further piece.
 #![tactic(auto)]
 
 mod bit_in;
 mod bit_writer;
 mod numbers;
+mod part;
 mod runs;
 mod width;
 
 pub use bit_in::{BitIn, BitOut};
 pub use bit_writer::{BitWriter, Full};
 pub use numbers::NumberOut;
+pub use part::Part;
 pub use runs::RunOut;
 
 #[cfg(test)]

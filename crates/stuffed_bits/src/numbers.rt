@@ -1,19 +1,19 @@
 //! The reader's numbers of several bits: a byte gives as many at once as are wanted.
 ghost use Rattle.std.specs.Prelude.{◌≡◌, ◌<◌, ◌≤◌, ◌+◌, ◌-◌, ◌++◌, ◌^◌, ℕ, List, Bool, length, drop};
-ghost use Rattle.std.specs.List.{slice_range};
-ghost use Rattle.codestream_model.specs.StuffedBits.{number_bits, packed_bits};
+ghost use Rattle.codestream_model.specs.StuffedBits.{number_bits};
 ghost use Rattle.stuffed_bits.specs.Stands.{before_next};
-ghost use Rattle.stuffed_bits.specs.BitsRead.{HasRead};
-ghost use Rattle.stuffed_bits.specs.NumbersRead.{number_after, high_part};
+ghost use Rattle.stuffed_bits.specs.Hand.{part_bits, IsOfNumber};
+ghost use Rattle.stuffed_bits.specs.NumbersRead.{AnswersNumber, GivesNumber, KeepsNumber, high_part};
 
 use crate::bit_in::{BitIn, Ready};
+use crate::part::Part;
 
 /// What is read of a piece of bytes where a number is wanted.
 #[derive(Clone, Copy, Debug, PartialEq, Eq)]
 pub enum NumberOut {
     /// The number.
     Number(u32),
-    /// The piece ends before its last bit.
+    /// The piece ends before its last bit. The same call with a further piece goes on.
     Need,
     /// A byte after FF has its top bit set before its last bit.
     Stuffed,
@@ -32,23 +32,53 @@ impl BitIn {
         (u32::from(self.before()) >> self.left) % (1 << count)
     }
 
-    /// Reads the number that the next bits spell, so many of them, the greatest first; 0 where none is wanted.
+    /// Takes what was read before of a number of `width` bits: the number that its first bits spell,
+    /// and how many they are.
+    #[tactic(auto, unfolding(codestream_model::specs::StuffedBits::number_bits))]
+    fn take_number(&mut self, width: u8) -> (u32, u8)
+        requires { IsOfNumber width self.old.part }
+        ensures bits { part_bits self.old.part ≡ number_bits result.1 result.0 }
+        ensures few { result.1 ≤ width }
+        ensures small { result.0 < 2 ^ result.1 }
+        ensures rest { self.new ≡ record self.old { part = Part.Nothing } }
+    {
+        match self.part {
+            Part::Number(value, count) => {
+                self.part = Part::Nothing;
+                (value, count)
+            }
+            _ => (0, 0),
+        }
+    }
+
+    /// Reads the number that the next `width` bits spell, the greatest first; 0 where `width` is 0.
     ///
-    /// `piece` and `at` are as for `bit`. After `Need` and `Stuffed` the reader is of no more use: it may have taken bits.
+    /// `piece` and `at` are as for `bit`. After `Need` only the same call with a further piece may
+    /// follow, and after `Stuffed` none.
+    #[inline(always)]
     pub fn number(&mut self, width: u8, piece: &[u8], at: &mut usize) -> NumberOut
         requires low { width ≤ 25 }
         requires inside { at.old ≤ length piece.now }
-        ensures exact { (bits : List Bool) (bytes : List ℕ) → HasRead bits bytes self.old → result ≡ number_after width bits (packed_bits (bytes ++ drop at.old piece.now)) }
-        ensures stands { (n : ℕ) → result ≡ NumberOut.Number n → (bits : List Bool) (bytes : List ℕ) → HasRead bits bytes self.old → HasRead (bits ++ number_bits width n) (bytes ++ slice_range piece.now at.old at.new) self.new }
+        requires own { IsOfNumber width self.old.part }
+        ensures exact { AnswersNumber width self.old piece.now at.old result }
+        ensures stands { GivesNumber width self.old self.new piece.now at.old at.new result }
+        ensures waits { KeepsNumber self.old self.new piece.now at.old at.new result }
         ensures small { (n : ℕ) → result ≡ NumberOut.Number n → n < 2 ^ width }
+        ensures free { (n : ℕ) → result ≡ NumberOut.Number n → self.new.part ≡ Part.Nothing }
+        ensures own { result ≡ NumberOut.Need → IsOfNumber width self.new.part }
+        ensures whole { result ≡ NumberOut.Need → at.new ≡ length piece.now }
         ensures onward { at.old ≤ at.new }
         ensures within { at.new ≤ length piece.now }
     {
-        let mut value = 0;
-        let mut wanted = width;
+        let (first, count) = self.take_number(width);
+        let mut value = first;
+        let mut wanted = width - count;
         while wanted > 0 {
             match self.ready(piece, at) {
-                Ready::Need => return NumberOut::Need,
+                Ready::Need => {
+                    self.part = Part::Number(value, width - wanted);
+                    return NumberOut::Need;
+                }
                 Ready::Stuffed => return NumberOut::Stuffed,
                 Ready::Yes => {
                     let count = wanted.min(self.left);

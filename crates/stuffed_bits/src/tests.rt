@@ -141,6 +141,44 @@ fn a_number_goes_on_in_a_further_piece(rt: HostRuntime) {
 }
 
 #[test]
+fn a_number_is_read_byte_by_byte(rt: HostRuntime) {
+    let mut reader = BitIn::new();
+    let mut first = 0;
+    assert_eq!(rt; reader.number(25, &[0x01], &mut first), NumberOut::Need);
+    assert_eq!(rt; first, 1);
+    let mut second = 0;
+    assert_eq!(rt;
+        reader.number(25, &[0x23, 0xFF], &mut second),
+        NumberOut::Need
+    );
+    assert_eq!(rt; second, 2);
+    let mut last = 0;
+    assert_eq!(rt;
+        reader.number(25, &[0x7F, 0x80], &mut last),
+        NumberOut::Number(0x2_47FF)
+    );
+    assert_eq!(rt; last, 1);
+}
+
+#[test]
+fn a_run_is_read_byte_by_byte(rt: HostRuntime) {
+    let mut reader = BitIn::new();
+    let mut first = 0;
+    assert_eq!(rt; reader.run(false, 75, &[0x1F], &mut first), RunOut::Run(3));
+    let mut second = 0;
+    assert_eq!(rt; reader.run(true, 22, &[0xFF], &mut second), RunOut::Need);
+    assert_eq!(rt; second, 1);
+    let mut third = 0;
+    assert_eq!(rt; reader.run(true, 22, &[0x7F], &mut third), RunOut::Need);
+    let mut last = 0;
+    assert_eq!(rt;
+        reader.run(true, 22, &[0x40], &mut last),
+        RunOut::Run(4 + 8 + 7)
+    );
+    assert_eq!(rt; last, 1);
+}
+
+#[test]
 fn runs_are_read_with_the_bit_that_ends_them(rt: HostRuntime) {
     let bytes = [0x1F, 0xFF, 0x7F, 0x40];
     let mut reader = BitIn::new();

@@ -32,11 +32,11 @@ widened done more all taken t h out AtEnd e a = a
 widened done more all taken t h out (Refused why) e a = a
 
 -- no label is answered where no bit is left
-none_is_no_label : (o : Option ℕ) (v : ℕ) → Value v ≡ none_left o → ⊥
+pub none_is_no_label : (o : Option ℕ) (v : ℕ) → Value v ≡ none_left o → ⊥
 none_is_no_label None v e = cc
 none_is_no_label (Some place) v e = cc
 
-same_label : (u v : ℕ) → Value u ≡ Value v → u ≡ v
+pub same_label : (u v : ℕ) → Value u ≡ Value v → u ≡ v
 same_label u v e = cc
 
 -- a node's answer, and then that of the nodes below it
@@ -61,26 +61,26 @@ answered_last AtEnd next done all taken t h out a none = a
 answered_last (Refused why) next done all taken t h out a none = a
 
 -- a label that is known, or not
-known_or_not : (o : Option ℕ) → (o ≡ None) ⊎ ((v : ℕ) × (o ≡ Some v))
+pub known_or_not : (o : Option ℕ) → (o ≡ None) ⊎ ((v : ℕ) × (o ≡ Some v))
 known_or_not None = inl refl
 known_or_not (Some v) = inr (v, refl)
 
 -- a path whose first node is known, lies below one that isn't 0, or is met by a bit
-when_known : (level : ℕ) (levels : List ℕ) (s : Seat) (above v : ℕ) (nodes : List Node) (l : List Bool) → known_label level s nodes ≡ Some v → read_inclusion (level ∷ levels) s above nodes l ≡ read_inclusion levels s v nodes l
+pub when_known : (level : ℕ) (levels : List ℕ) (s : Seat) (above v : ℕ) (nodes : List Node) (l : List Bool) → known_label level s nodes ≡ Some v → read_inclusion (level ∷ levels) s above nodes l ≡ read_inclusion levels s v nodes l
 unfolding read_inclusion
 when_known level levels s above v nodes l e = rw (e, read_inclusion) refl
 
-when_below : (level : ℕ) (levels : List ℕ) (s : Seat) (above : ℕ) (nodes : List Node) (l : List Bool) → known_label level s nodes ≡ None → (above == 0) ≡ false → read_inclusion (level ∷ levels) s above nodes l ≡ read_inclusion levels s above nodes l
+pub when_below : (level : ℕ) (levels : List ℕ) (s : Seat) (above : ℕ) (nodes : List Node) (l : List Bool) → known_label level s nodes ≡ None → (above == 0) ≡ false → read_inclusion (level ∷ levels) s above nodes l ≡ read_inclusion levels s above nodes l
 unfolding read_inclusion
 when_below level levels s above nodes l e z = rw (e, z, read_inclusion) refl
 
-when_met : (level : ℕ) (levels : List ℕ) (s : Seat) (above : ℕ) (nodes : List Node) (l : List Bool) → known_label level s nodes ≡ None → (above == 0) ≡ true
+pub when_met : (level : ℕ) (levels : List ℕ) (s : Seat) (above : ℕ) (nodes : List Node) (l : List Bool) → known_label level s nodes ≡ None → (above == 0) ≡ true
     → read_inclusion (level ∷ levels) s above nodes l ≡ and_then (read_bit l) (λ b more. read_inclusion levels s (if b then 0 else 1) (node_of level s (if b then 0 else 1) ∷ nodes) more)
 unfolding read_inclusion
 when_met level levels s above nodes l e z = rw (e, z, read_inclusion) refl
 
 -- no path
-at_leaf : (s : Seat) (above : ℕ) (nodes : List Node) (l : List Bool) → read_inclusion [] s above nodes l ≡ Got (record { label = above; nodes = nodes }) l
+pub at_leaf : (s : Seat) (above : ℕ) (nodes : List Node) (l : List Bool) → read_inclusion [] s above nodes l ≡ Got (record { label = above; nodes = nodes }) l
 unfolding read_inclusion
 at_leaf s above nodes l = refl
 
@@ -183,16 +183,16 @@ lower_levels zero h = absurd (h refl)
 lower_levels (suc level) h = let e : suc level - 1 ≡ level = omega arith in rw e refl
 
 -- a path of the value tree whose first node is known, or is met
-planes_known : (level : ℕ) (levels : List ℕ) (s : Seat) (above v : ℕ) (nodes : List Node) (l : List Bool) → known_label level s nodes ≡ Some v → read_planes (level ∷ levels) s above nodes l ≡ read_planes levels s v nodes l
+pub planes_known : (level : ℕ) (levels : List ℕ) (s : Seat) (above v : ℕ) (nodes : List Node) (l : List Bool) → known_label level s nodes ≡ Some v → read_planes (level ∷ levels) s above nodes l ≡ read_planes levels s v nodes l
 unfolding read_planes
 planes_known level levels s above v nodes l e = rw (e, read_planes) refl
 
-planes_met : (level : ℕ) (levels : List ℕ) (s : Seat) (above : ℕ) (nodes : List Node) (l : List Bool) → known_label level s nodes ≡ None
+pub planes_met : (level : ℕ) (levels : List ℕ) (s : Seat) (above : ℕ) (nodes : List Node) (l : List Bool) → known_label level s nodes ≡ None
     → read_planes (level ∷ levels) s above nodes l ≡ and_then (read_label above l) (λ value more. read_planes levels s value (node_of level s value ∷ nodes) more)
 unfolding read_planes
 planes_met level levels s above nodes l e = rw (e, read_planes) refl
 
-planes_at_leaf : (s : Seat) (above : ℕ) (nodes : List Node) (l : List Bool) → read_planes [] s above nodes l ≡ Got (record { label = above; nodes = nodes }) l
+pub planes_at_leaf : (s : Seat) (above : ℕ) (nodes : List Node) (l : List Bool) → read_planes [] s above nodes l ≡ Got (record { label = above; nodes = nodes }) l
 unfolding read_planes
 planes_at_leaf s above nodes l = refl
 

@@ -1,4 +1,6 @@
 pub mod AnswerLemmas
+pub mod LocalReads
+pub mod GoLemmas
 pub mod ZeroRuns
 pub mod KnowLemmas
 pub mod PlaceLemmas

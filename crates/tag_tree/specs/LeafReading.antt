@@ -2,8 +2,8 @@
 use Rattle.std.specs.Prelude.{◌≡◌, ◌<◌, ◌≤◌, ◌++◌, ℕ, Bool, true, false, List, length, drop, slice_index, slice_index_or, slice_set, Option, Some, None, if◌then◌else◌}
 use Rattle.std.specs.List.{slice_range}
 use Rattle.codestream_model.specs.StuffedBits.{packed_bits}
-use Rattle.codestream_model.specs.TagTrees.{Seat}
-use Rattle.codestream_model.specs.PacketHeaderReading.{Node, Walked, Read, Got, AtEnd, Refused, known_label}
+use Rattle.codestream_model.specs.TagTrees.{Seat, root_level, levels_from}
+use Rattle.codestream_model.specs.PacketHeaderReading.{Node, Walked, Read, Got, AtEnd, Refused, known_label, read_inclusion, read_planes}
 use Rattle.stuffed_bits.specs.Hand.{Hand}
 use Rattle.stuffed_bits.specs.BitsRead.{HasRead}
 use Rattle.tag_tree.specs.Places.{place_of}
@@ -53,6 +53,14 @@ Reads reading col row before after old new piece at end out =
     (band : ℕ) (nodes : List Node) (done : List Bool) (bytes : List ℕ) → Knows before nodes → HasRead done bytes old
     → IsAnswer done (bytes ++ drop at piece) (bytes ++ slice_range piece at end) after new out
     (reading (record { band = band; col = col; row = row }) nodes (behind done (bytes ++ drop at piece)))
+
+-- The reading of a leaf of an inclusion tree with this state.
+abbrev pub inclusion_reading : Grove → Seat → List Node → List Bool → Read Walked
+inclusion_reading t s nodes l = read_inclusion (levels_from (root_level (record { band = 0; cols = t.cols; rows = t.rows }))) s 0 nodes l
+
+-- The reading of a leaf of a value tree with this state.
+abbrev pub planes_reading : Grove → Seat → List Node → List Bool → Read Walked
+planes_reading t s nodes l = read_planes (levels_from (root_level (record { band = 0; cols = t.cols; rows = t.rows }))) s 0 nodes l
 
 -- the same of a single label, which no tree keeps
 abbrev pub IsLabel : List Bool → List ℕ → List ℕ → Hand → TreeOut → Read ℕ → Type 0

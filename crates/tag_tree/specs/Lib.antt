@@ -1,4 +1,5 @@
 pub mod Places
 pub mod Grove
 pub mod LeafReading
+pub mod LeafGoing
 pub mod LeafWriting

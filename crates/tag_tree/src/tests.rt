@@ -84,6 +84,66 @@ fn labels_end_at_74(rt: HostRuntime) -> Result<(), AllocError> {
 }
 
 #[test]
+fn a_label_is_read_piece_by_piece(rt: HostRuntime) -> Result<(), AllocError> {
+    let mut tree = Tree::reserve(rt.alloc(), 1)?;
+    tree.reset(1, 1);
+    let mut bits = BitIn::new();
+    let mut first = 0;
+    assert_eq!(rt;
+        tree.read_value(0, 0, &mut bits, &[0, 0, 0, 0], &mut first),
+        TreeOut::Need
+    );
+    assert_eq!(rt; first, 4);
+    let mut second = 0;
+    assert_eq!(rt;
+        tree.read_value(0, 0, &mut bits, &[0, 0, 0, 0, 0], &mut second),
+        TreeOut::Need
+    );
+    let mut last = 0;
+    assert_eq!(rt;
+        tree.read_value(0, 0, &mut bits, &[0x20, 0xFF], &mut last),
+        TreeOut::Value(74)
+    );
+    assert_eq!(rt; last, 1);
+    Ok(())
+}
+
+#[test]
+fn an_inclusion_is_read_piece_by_piece(rt: HostRuntime) -> Result<(), AllocError> {
+    // After a bit 1: 1110, 1, 0, none, and 110, of which the second piece has the last two.
+    let mut tree = Tree::reserve(rt.alloc(), 15)?;
+    tree.reset(5, 3);
+    let mut bits = BitIn::new();
+    let piece = [0xF5u8];
+    let mut at = 0;
+    assert_eq!(rt; bits.bit(&piece, &mut at), BitOut::Bit(true));
+    assert_eq!(rt;
+        tree.read_inclusion(0, 0, &mut bits, &piece, &mut at),
+        TreeOut::Value(1)
+    );
+    assert_eq!(rt;
+        tree.read_inclusion(1, 0, &mut bits, &piece, &mut at),
+        TreeOut::Value(0)
+    );
+    assert_eq!(rt;
+        tree.read_inclusion(2, 0, &mut bits, &piece, &mut at),
+        TreeOut::Value(1)
+    );
+    assert_eq!(rt;
+        tree.read_inclusion(4, 0, &mut bits, &piece, &mut at),
+        TreeOut::Need
+    );
+    assert_eq!(rt; at, 1);
+    let mut further = 0;
+    assert_eq!(rt;
+        tree.read_inclusion(4, 0, &mut bits, &[0x8E], &mut further),
+        TreeOut::Value(1)
+    );
+    assert_eq!(rt; further, 1);
+    Ok(())
+}
+
+#[test]
 fn a_stuffed_byte_gives_no_label(rt: HostRuntime) -> Result<(), AllocError> {
     let mut tree = Tree::reserve(rt.alloc(), 65536)?;
     tree.reset(256, 256);

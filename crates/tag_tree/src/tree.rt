@@ -1,9 +1,11 @@
 //! The tree: its labels, and which of its nodes were met.
-ghost use Rattle.std.specs.Prelude.{◌≡◌, ◌≢◌, ◌<◌, ◌≤◌, ◌*◌, ◌++◌, [], ◌∷◌, false, length, replicate, drop, IfOk, if◌then◌else◌};
-ghost use Rattle.codestream_model.specs.TagTrees.{levels_from, root_level};
+ghost use Rattle.std.specs.Prelude.{◌≡◌, ◌≢◌, ◌<◌, ◌≤◌, ◌*◌, ◌++◌, ℕ, Bool, List, [], ◌∷◌, false, length, replicate, drop, IfOk, if◌then◌else◌};
+ghost use Rattle.codestream_model.specs.TagTrees.{levels_from};
 ghost use Rattle.codestream_model.specs.PacketHeaderReading.{read_label, read_inclusion, read_planes};
 ghost use Rattle.tag_tree.specs.Places.{place_of};
-ghost use Rattle.tag_tree.specs.LeafReading.{Knows, IsSameShape, Reads, ReadsLabel, told_at, met_at};
+ghost use Rattle.stuffed_bits.specs.Hand.{IsFree, IsOfRun};
+ghost use Rattle.tag_tree.specs.LeafReading.{Knows, IsSameShape, inclusion_reading, planes_reading, Reads, ReadsLabel, told_at, met_at};
+ghost use Rattle.tag_tree.specs.LeafGoing.{WaitsFor, KeepsBits, IsFreeOrKnown};
 
 use crate::layout::{LEVELS, bases, exponent_of, most_nodes, width};
 use std::alloc::{AllocError, Global};
@@ -28,8 +30,13 @@ const GREATEST: u8 = 74;
 
 /// Reads a label of the value tree that is at least this one.
 fn label_from(least: u8, bits: &mut BitIn, piece: &[u8], at: &mut usize) -> TreeOut
-    requires { at.old ≤ length piece.now }
+    requires inside { at.old ≤ length piece.now }
+    requires own { IsOfRun false bits.old.part }
     ensures read { ReadsLabel (λ l. read_label least l) bits.old bits.new piece.now at.old at.new result }
+    ensures waits { KeepsBits bits.old bits.new piece.now at.old at.new result }
+    ensures free { (label : ℕ) → result ≡ TreeOut.Value label → IsFree bits.new }
+    ensures own { result ≡ TreeOut.Need → IsOfRun false bits.new.part }
+    ensures whole { result ≡ TreeOut.Need → at.new ≡ length piece.now }
     ensures onward { at.old ≤ at.new }
     ensures within { at.new ≤ length piece.now }
 {
@@ -185,8 +192,12 @@ impl Tree {
         requires col_in { col < self.old.cols }
         requires row_in { row < self.old.rows }
         requires inside { at.old ≤ length piece.now }
+        requires free { IsFree bits.old }
         ensures read { Reads (λ s nodes l. read_inclusion (level ∷ []) s above nodes l) col row self.old self.new bits.old bits.new piece.now at.old at.new result }
         ensures never { result ≢ TreeOut.TooGreat }
+        ensures waits { result ≡ TreeOut.Need → WaitsFor (λ s nodes l. read_inclusion (level ∷ []) s above nodes l) level col row self.old self.new bits.old bits.new piece.now at.old at.new }
+        ensures free { IsFree bits.new }
+        ensures whole { result ≡ TreeOut.Need → at.new ≡ length piece.now }
         ensures same { IsSameShape self.old self.new }
         ensures onward { at.old ≤ at.new }
         ensures within { at.new ≤ length piece.now }
@@ -224,8 +235,12 @@ impl Tree {
         requires col_in { col < self.old.cols }
         requires row_in { row < self.old.rows }
         requires inside { at.old ≤ length piece.now }
+        requires free { IsFree bits.old }
         ensures read { Reads (λ s nodes l. read_inclusion (levels_from level) s above nodes l) col row self.old self.new bits.old bits.new piece.now at.old at.new result }
         ensures never { result ≢ TreeOut.TooGreat }
+        ensures waits { result ≡ TreeOut.Need → WaitsFor (λ s nodes l. read_inclusion (levels_from level) s above nodes l) level col row self.old self.new bits.old bits.new piece.now at.old at.new }
+        ensures free { IsFree bits.new }
+        ensures whole { result ≡ TreeOut.Need → at.new ≡ length piece.now }
         ensures same { IsSameShape self.old self.new }
         ensures onward { at.old ≤ at.new }
         ensures within { at.new ≤ length piece.now }
@@ -250,8 +265,9 @@ impl Tree {
 
     /// Reads a leaf of the inclusion tree: 0 where it is included, else 1.
     ///
-    /// `piece` are the bytes at hand, and `at` is the place in them behind the last byte that was taken. After any answer but
-    /// `Value` only `reset` may follow.
+    /// `piece` are the bytes at hand, and `at` is the index in them after the last byte that was taken.
+    /// After `Need` only the same call with a further piece, or `reset`, may follow, and after
+    /// `Stuffed` only `reset`.
     pub fn read_inclusion(
         &mut self,
         col: u32,
@@ -263,8 +279,12 @@ impl Tree {
         requires col_in { col < self.old.cols }
         requires row_in { row < self.old.rows }
         requires inside { at.old ≤ length piece.now }
-        ensures read { Reads (λ s nodes l. read_inclusion (levels_from (root_level (record { band = 0; cols = self.old.cols; rows = self.old.rows }))) s 0 nodes l) col row self.old self.new bits.old bits.new piece.now at.old at.new result }
+        requires free { IsFree bits.old }
+        ensures read { Reads (inclusion_reading self.old) col row self.old self.new bits.old bits.new piece.now at.old at.new result }
         ensures never { result ≢ TreeOut.TooGreat }
+        ensures waits { result ≡ TreeOut.Need → WaitsFor (inclusion_reading self.old) self.old.root col row self.old self.new bits.old bits.new piece.now at.old at.new }
+        ensures free { IsFree bits.new }
+        ensures whole { result ≡ TreeOut.Need → at.new ≡ length piece.now }
         ensures same { IsSameShape self.old self.new }
         ensures onward { at.old ≤ at.new }
         ensures within { at.new ≤ length piece.now }
@@ -287,7 +307,12 @@ impl Tree {
         requires col_in { col < self.old.cols }
         requires row_in { row < self.old.rows }
         requires inside { at.old ≤ length piece.now }
+        requires own { IsOfRun false bits.old.part }
         ensures read { Reads (λ s nodes l. read_planes (level ∷ []) s above nodes l) col row self.old self.new bits.old bits.new piece.now at.old at.new result }
+        ensures waits { result ≡ TreeOut.Need → WaitsFor (λ s nodes l. read_planes (level ∷ []) s above nodes l) level col row self.old self.new bits.old bits.new piece.now at.old at.new }
+        ensures free { (label : ℕ) → result ≡ TreeOut.Value label → IsFreeOrKnown (λ s nodes l. read_planes (level ∷ []) s above nodes l) col row label self.old self.new bits.old bits.new }
+        ensures own { result ≡ TreeOut.Need → IsOfRun false bits.new.part }
+        ensures whole { result ≡ TreeOut.Need → at.new ≡ length piece.now }
         ensures same { IsSameShape self.old self.new }
         ensures onward { at.old ≤ at.new }
         ensures within { at.new ≤ length piece.now }
@@ -321,7 +346,12 @@ impl Tree {
         requires col_in { col < self.old.cols }
         requires row_in { row < self.old.rows }
         requires inside { at.old ≤ length piece.now }
+        requires own { IsOfRun false bits.old.part }
         ensures read { Reads (λ s nodes l. read_planes (levels_from level) s above nodes l) col row self.old self.new bits.old bits.new piece.now at.old at.new result }
+        ensures waits { result ≡ TreeOut.Need → WaitsFor (λ s nodes l. read_planes (levels_from level) s above nodes l) level col row self.old self.new bits.old bits.new piece.now at.old at.new }
+        ensures free { (label : ℕ) → result ≡ TreeOut.Value label → IsFreeOrKnown (λ s nodes l. read_planes (levels_from level) s above nodes l) col row label self.old self.new bits.old bits.new }
+        ensures own { result ≡ TreeOut.Need → IsOfRun false bits.new.part }
+        ensures whole { result ≡ TreeOut.Need → at.new ≡ length piece.now }
         ensures same { IsSameShape self.old self.new }
         ensures onward { at.old ≤ at.new }
         ensures within { at.new ≤ length piece.now }
@@ -338,7 +368,8 @@ impl Tree {
 
     /// Reads a leaf of the value tree, 0 to 74.
     ///
-    /// `piece` and `at` are as for `read_inclusion`. After any answer but `Value` only `reset` may follow.
+    /// `piece` and `at` are as for `read_inclusion`. After `Need` only the same call with a further
+    /// piece, or `reset`, may follow, and after `Stuffed` and `TooGreat` only `reset`.
     pub fn read_value(
         &mut self,
         col: u32,
@@ -350,7 +381,13 @@ impl Tree {
         requires col_in { col < self.old.cols }
         requires row_in { row < self.old.rows }
         requires inside { at.old ≤ length piece.now }
-        ensures read { Reads (λ s nodes l. read_planes (levels_from (root_level (record { band = 0; cols = self.old.cols; rows = self.old.rows }))) s 0 nodes l) col row self.old self.new bits.old bits.new piece.now at.old at.new result }
+        requires own { IsOfRun false bits.old.part }
+        ensures read { Reads (planes_reading self.old) col row self.old self.new bits.old bits.new piece.now at.old at.new result }
+        ensures waits { result ≡ TreeOut.Need → WaitsFor (planes_reading self.old) self.old.root col row self.old self.new bits.old bits.new piece.now at.old at.new }
+        ensures free { (label : ℕ) → result ≡ TreeOut.Value label → IsFreeOrKnown (planes_reading self.old) col row label self.old self.new bits.old bits.new }
+        ensures fresh { (label : ℕ) → result ≡ TreeOut.Value label → IsFree bits.old → IsFree bits.new }
+        ensures own { result ≡ TreeOut.Need → IsOfRun false bits.new.part }
+        ensures whole { result ≡ TreeOut.Need → at.new ≡ length piece.now }
         ensures same { IsSameShape self.old self.new }
         ensures onward { at.old ≤ at.new }
         ensures within { at.new ≤ length piece.now }

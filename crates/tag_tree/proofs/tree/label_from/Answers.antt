@@ -34,3 +34,6 @@ returns-then-zeros-most-clause-read c = λ done bytes r.
     let s = c.in-Run.ensures.exact done bytes r in
     let whole : c.in-Run.zeros ≡ c.saturating_sub-most.result + 1 = omega (arith, s.0, c.if-zeros-most.true) in
     label_too_great c.args.least (c.saturating_sub-most.result + 1) c.in-Run.zeros done s.1.0 all (bytes ++ slice_range c.args.piece.now c.args.at.now c.run.new.at) c.run.new.self most whole s.1.1
+
+pub returns-in-Need-clause-waits : goal.returns-in-Need-clause-waits
+returns-in-Need-clause-waits c = λ e done bytes r. c.in-Need.ensures.waits refl done bytes r

@@ -1,66 +1,80 @@
--- A code-block is left out, or read part by part.
-use Rattle.std.proofs.Common.{◌≡◌, ℕ, List, Err, ap, subst}
+-- The inclusion, and then what follows it.
+use Rattle.std.proofs.Common.{◌≡◌, ◌++◌, ℕ, Bool, List, Option, Some, Result, Ok, Err, refl, sym, ◌∙◌, ap, subst}
 use Rattle.std.proofs.lemmas.Result.{err_from_is_err_and}
-use Rattle.codestream_model.specs.TagTrees.{Seat}
-use Rattle.codestream_model.specs.PacketHeaderReading.{read_inclusion, read_planes, read_block}
-use Rattle.packet_header.specs.Standing.{left}
-use Rattle.packet_header.specs.Answers.{block_of, block_answer}
-use Rattle.packet_header.specs.Trees.{levels_of, ReadsLeaf}
-use Rattle.packet_header.proofs.SeatSteps.{leaf_went, went, stops_at_inclusion, left_out, stops_at_planes, stops_at_block, kept, planes_levels}
+use Rattle.codestream_model.specs.TagTrees.{Seat, root_level, levels_from}
+use Rattle.codestream_model.specs.PacketHeaderReading.{read_inclusion}
+use Rattle.packet_header.specs.Leaves.{levels_of, LeafMoved}
+use Rattle.packet_header.specs.Seats.{SeatWent, SeatRead, ReadsSeat}
+use Rattle.packet_header.specs.declared.grids.TagTrees.{TagTrees}
+use Rattle.packet_header.specs.declared.refusal.Stop.{Stop}
+use Rattle.packet_header.specs.declared.step.Step.{Step}
+use Rattle.packet_header.specs.declared.step.Step.TheVariants.{Inclusion, Planes}
+use Rattle.packet_header.proofs.SeatMoves.{find_included, find_left_out, inclusion_stops, finds_stop, left_out, seat_on, unread_free, same_levels}
 use Rattle.packet_header.proofs.grids.TagTrees.read_seat.Goals as goal
 
-pub returns-in_err-label-clause-read : goal.returns-in_err-label-clause-read
-returns-in_err-label-clause-read c = λ inclusion planes k.
+pub returns-in_err-label-in-Inclusion-clause-read : goal.returns-in_err-label-in-Inclusion-clause-read
+returns-in_err-label-in-Inclusion-clause-read c = λ nodes others k before done h.
     let p = err_from_is_err_and c.from_residual.result c.from_residual.ensures.1 in
     let s : Seat = record { band = c.args.band; col = c.args.col; row = c.args.row } in
-    rw (p.1, p.2) (stops_at_inclusion (levels_of c.args.self.now.inclusion) s inclusion planes c.inclusion.new.tree c.args.source.now c.inclusion.new.self _ c.inclusion.result (c.inclusion.ensures.read c.args.band inclusion k.inclusion) c.in_err-label.was)
+    let t : TagTrees = record { inclusion = c.inclusion.new.tree; planes = c.args.self.now.planes } in
+    let old = c.args.source.now in
+    let new = c.inclusion.new.self in
+    let held = c.args.blocks.now.items in
+    let levels = levels_of c.args.self.now.inclusion in
+    let stopped = c.in_err-label-in-Inclusion.field-0.0 in
+    let R : Result ℕ Stop → Type 0 = λ x. LeafMoved (λ ns l. read_inclusion levels s 0 ns l) nodes before done t.inclusion old new x in
+    let here = subst R c.in_err-label-in-Inclusion.was (c.inclusion.ensures.gets c.args.band nodes k.inclusion before done h) in
+    let P : Step → Type 0 = λ x. ReadsSeat levels s nodes others t x x before done old new held held (Err stopped) in
+    rw (p.1, p.2) (subst P (sym c.in-Inclusion.is) (finds_stop levels s nodes others t Inclusion before done old new held stopped (inclusion_stops levels s nodes others t before done old new stopped here k.planes)))
 
 pub returns-then-label-ne0-clause-read : goal.returns-then-label-ne0-clause-read
-returns-then-label-ne0-clause-read c = λ inclusion planes k.
+returns-then-label-ne0-clause-read c = λ nodes others k before done h.
     let s : Seat = record { band = c.args.band; col = c.args.col; row = c.args.row } in
+    let t : TagTrees = record { inclusion = c.inclusion.new.tree; planes = c.args.self.now.planes } in
+    let old = c.args.source.now in
+    let new = c.inclusion.new.self in
+    let held = c.args.blocks.now.items in
     let levels = levels_of c.args.self.now.inclusion in
-    let w = leaf_went (read_inclusion levels s 0 inclusion (left c.args.source.now)) c.args.source.now c.inclusion.new.self c.inclusion.new.tree c.in_ok-label.label c.inclusion.result (c.inclusion.ensures.read c.args.band inclusion k.inclusion) c.in_ok-label.was in
-    left_out levels s inclusion planes c.inclusion.new.tree c.args.self.now.planes c.args.source.now c.inclusion.new.self c.args.blocks.now.items c.in_ok-label.label w c.if-label-ne0.true k.planes
+    let R : Result ℕ Stop → Type 0 = λ x. LeafMoved (λ ns l. read_inclusion levels s 0 ns l) nodes before done t.inclusion old new x in
+    let here = subst R c.in_ok-label-in-Inclusion.was (c.inclusion.ensures.gets c.args.band nodes k.inclusion before done h) in
+    let P : Step → Type 0 = λ x. SeatRead levels s nodes others t x before done new held held in
+    subst P (sym c.in-Inclusion.is) (left_out levels s nodes others t Inclusion before done new held (find_left_out levels s nodes others t before done new c.in_ok-label-in-Inclusion.label here c.if-label-ne0.true k.planes))
 
-pub planes-requires-clause-stands : goal.planes-requires-clause-stands
-planes-requires-clause-stands c =
-    let k = c.requires.known.2 in
+pub read_planes-requires-clause-ready : goal.read_planes-requires-clause-ready
+read_planes-requires-clause-ready c =
     let s : Seat = record { band = c.args.band; col = c.args.col; row = c.args.row } in
-    (leaf_went (read_inclusion (levels_of c.args.self.now.inclusion) s 0 c.requires.known.0 (left c.args.source.now)) c.args.source.now c.inclusion.new.self c.inclusion.new.tree c.in_ok-label.label c.inclusion.result (c.inclusion.ensures.read c.args.band c.requires.known.0 k.inclusion) c.in_ok-label.was).stands
-
-pub returns-in_err-planes-clause-read : goal.returns-in_err-planes-clause-read
-returns-in_err-planes-clause-read c = λ inclusion planes k.
-    let p = err_from_is_err_and c.from_residual-in_err-planes.result c.from_residual-in_err-planes.ensures.1 in
-    let s : Seat = record { band = c.args.band; col = c.args.col; row = c.args.row } in
+    let t : TagTrees = record { inclusion = c.inclusion.new.tree; planes = c.args.self.now.planes } in
+    let q = c.requires.ready in
+    let mid = c.inclusion.new.self in
     let levels = levels_of c.args.self.now.inclusion in
-    let w = leaf_went (read_inclusion levels s 0 inclusion (left c.args.source.now)) c.args.source.now c.inclusion.new.self c.inclusion.new.tree c.in_ok-label.label c.inclusion.result (c.inclusion.ensures.read c.args.band inclusion k.inclusion) c.in_ok-label.was in
-    let P : List ℕ → Type 0 = λ l. ReadsLeaf (read_planes l s 0 planes (left c.inclusion.new.self)) c.inclusion.new.self c.planes.new.self c.planes.new.tree c.planes.result in
-    let a = subst P (planes_levels c.args.self.now c.requires.same) (c.planes.ensures.read c.args.band planes k.planes) in
-    rw (p.1, p.2) (stops_at_planes levels s inclusion planes c.inclusion.new.tree c.planes.new.tree c.args.source.now c.inclusion.new.self c.planes.new.self c.in_ok-label.label _ c.planes.result w c.if-label-ne0.false a c.in_err-planes.was)
+    let R : Result ℕ Stop → Type 0 = λ x. LeafMoved (λ ns l. read_inclusion levels s 0 ns l) q.nodes q.before q.done t.inclusion c.args.source.now mid x in
+    let here = subst R c.in_ok-label-in-Inclusion.was (c.inclusion.ensures.gets c.args.band q.nodes q.knows.inclusion q.before q.done q.stands) in
+    let w = find_included levels s q.nodes q.others t q.before q.done mid c.in_ok-label-in-Inclusion.label here c.if-label-ne0.false q.knows.planes in
+    record {
+      before = q.before;
+      done = q.done ++ w.bits;
+      nodes = w.known;
+      others = w.known_others;
+      stands = w.stands;
+      knows = w.knows;
+      unread = unread_free (levels_of c.args.self.now.planes) s w.known_others Planes mid.bits.part c.inclusion.ensures.free;
+    }
 
-pub block-requires : goal.block-requires
-block-requires c =
-    let k = c.requires.known.2 in
+pub returns-else-label-ne0-clause-read : goal.returns-else-label-ne0-clause-read
+returns-else-label-ne0-clause-read c = λ nodes others k before done h.
     let s : Seat = record { band = c.args.band; col = c.args.col; row = c.args.row } in
-    (leaf_went (read_planes (levels_of c.args.self.now.planes) s 0 c.requires.known.1 (left c.inclusion.new.self)) c.inclusion.new.self c.planes.new.self c.planes.new.tree c.in_ok-planes.planes c.planes.result (c.planes.ensures.read c.args.band c.requires.known.1 k.planes) c.in_ok-planes.was).stands
-
-pub returns-in_err-block-clause-read : goal.returns-in_err-block-clause-read
-returns-in_err-block-clause-read c = λ inclusion planes k.
-    let p = err_from_is_err_and c.from_residual-in_err-block.result c.from_residual-in_err-block.ensures.1 in
-    let s : Seat = record { band = c.args.band; col = c.args.col; row = c.args.row } in
+    let t : TagTrees = record { inclusion = c.inclusion.new.tree; planes = c.args.self.now.planes } in
+    let old = c.args.source.now in
+    let mid = c.inclusion.new.self in
+    let new = c.read_planes.new.source in
+    let held = c.args.blocks.now.items in
+    let now = c.read_planes.new.blocks.items in
     let levels = levels_of c.args.self.now.inclusion in
-    let w = leaf_went (read_inclusion levels s 0 inclusion (left c.args.source.now)) c.args.source.now c.inclusion.new.self c.inclusion.new.tree c.in_ok-label.label c.inclusion.result (c.inclusion.ensures.read c.args.band inclusion k.inclusion) c.in_ok-label.was in
-    let P : List ℕ → Type 0 = λ l. ReadsLeaf (read_planes l s 0 planes (left c.inclusion.new.self)) c.inclusion.new.self c.planes.new.self c.planes.new.tree c.planes.result in
-    let x = leaf_went (read_planes levels s 0 planes (left c.inclusion.new.self)) c.inclusion.new.self c.planes.new.self c.planes.new.tree c.in_ok-planes.planes c.planes.result (subst P (planes_levels c.args.self.now c.requires.same) (c.planes.ensures.read c.args.band planes k.planes)) c.in_ok-planes.was in
-    let e : block_answer c.block.result ≡ Err c.in_err-block.field-0.0 = ap block_answer c.in_err-block.was in
-    rw (p.1, p.2) (stops_at_block levels s inclusion planes c.inclusion.new.tree c.planes.new.tree c.args.source.now c.inclusion.new.self c.planes.new.self c.block.new.source c.in_ok-label.label c.in_ok-planes.planes _ (block_answer c.block.result) w c.if-label-ne0.false x c.block.ensures e)
-
-pub returns-clause-read : goal.returns-clause-read
-returns-clause-read c = λ inclusion planes k.
-    let s : Seat = record { band = c.args.band; col = c.args.col; row = c.args.row } in
-    let levels = levels_of c.args.self.now.inclusion in
-    let w = leaf_went (read_inclusion levels s 0 inclusion (left c.args.source.now)) c.args.source.now c.inclusion.new.self c.inclusion.new.tree c.in_ok-label.label c.inclusion.result (c.inclusion.ensures.read c.args.band inclusion k.inclusion) c.in_ok-label.was in
-    let P : List ℕ → Type 0 = λ l. ReadsLeaf (read_planes l s 0 planes (left c.inclusion.new.self)) c.inclusion.new.self c.planes.new.self c.planes.new.tree c.planes.result in
-    let x = leaf_went (read_planes levels s 0 planes (left c.inclusion.new.self)) c.inclusion.new.self c.planes.new.self c.planes.new.tree c.in_ok-planes.planes c.planes.result (subst P (planes_levels c.args.self.now c.requires.same) (c.planes.ensures.read c.args.band planes k.planes)) c.in_ok-planes.was in
-    let y = went (read_block s c.in_ok-planes.planes (left c.planes.new.self)) c.planes.new.self c.block.new.source (block_of c.in_ok-block.block) (block_answer c.block.result) c.block.ensures (ap block_answer c.in_ok-block.was) in
-    rw c.push_reserved.ensures.items (kept levels s inclusion planes c.inclusion.new.tree c.planes.new.tree c.args.source.now c.inclusion.new.self c.planes.new.self c.block.new.source c.args.blocks.now.items c.in_ok-label.label c.in_ok-planes.planes c.in_ok-block.block w c.if-label-ne0.false x y)
+    let same : levels_of t.inclusion ≡ levels = same_levels c.args.self.now.inclusion t.inclusion c.inclusion.ensures.same.cols c.inclusion.ensures.same.rows in
+    let R : Result ℕ Stop → Type 0 = λ x. LeafMoved (λ ns l. read_inclusion levels s 0 ns l) nodes before done t.inclusion old mid x in
+    let here = subst R c.in_ok-label-in-Inclusion.was (c.inclusion.ensures.gets c.args.band nodes k.inclusion before done h) in
+    let w : SeatWent levels s nodes others t Inclusion before done mid (Some Planes) = find_included levels s nodes others t before done mid c.in_ok-label-in-Inclusion.label here c.if-label-ne0.false k.planes in
+    let Q : List ℕ → Type 0 = λ ls. ReadsSeat ls s w.known w.known_others c.read_planes.new.self Planes c.read_planes.new.step before (done ++ w.bits) mid new held now c.read_planes.result in
+    let next = subst Q same (c.read_planes.ensures.read w.known w.known_others w.knows before (done ++ w.bits) w.stands) in
+    let P : Step → Type 0 = λ x. ReadsSeat levels s nodes others c.read_planes.new.self x c.read_planes.new.step before done old new held now c.read_planes.result in
+    subst P (sym c.in-Inclusion.is) (seat_on levels s nodes others t c.read_planes.new.self Inclusion Planes c.read_planes.new.step before done old mid new held now c.read_planes.result c.inclusion.ensures.piece w next)

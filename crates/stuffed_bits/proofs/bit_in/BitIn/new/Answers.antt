@@ -6,4 +6,4 @@ use Rattle.codestream_model.specs.StuffedBits.{number_bits}
 
 pub returns-clause-stands : goal.returns-clause-stands
 unfolding number_bits
-returns-clause-stands c = record { last = refl; stands = none_stand }
+returns-clause-stands c = record { drawn = record { last = refl; stands = none_stand } }

@@ -1,20 +1,31 @@
 -- A number, part by part.
-use Rattle.std.proofs.Common.{◌≡◌, ◌<◌, ◌+◌, ◌-◌, ◌++◌, ap, arith}
+use Rattle.std.proofs.Common.{◌≡◌, ◌<◌, ◌≤◌, ◌+◌, ◌-◌, ◌++◌, ℕ, refl, ◌∙◌, ap, arith}
 use Rattle.stuffed_bits.specs.Hand.{Hand}
 use Rattle.std.specs.List.{slice_range}
 use Rattle.codestream_model.specs.StuffedBits.{number_bits}
 use Rattle.stuffed_bits.proofs.PartLemmas.{Joins, joins, gives_part}
 use Rattle.stuffed_bits.proofs.PartAnswers.{number_needs, number_breaks, number_is, part_joins, none_done}
+use Rattle.stuffed_bits.proofs.PartsRead.{drawn_before, read_free, read_part}
 use Rattle.stuffed_bits.proofs.bit_in.BitIn.number.Goals as goal
 
+-- what is left of the number where so many bits of it were read
+left_of : (width count : ℕ) → count ≤ width → width - (width - count) ≡ count
+left_of width count few = omega arith
+
 pub loop-wanted-init : goal.loop-wanted-init
-loop-wanted-init c = record {
-  few = omega arith;
-  small = let z : c.args.width - c.args.width ≡ 0 = omega arith in rw z (omega arith);
-  onward = omega arith;
-  within = c.requires.inside;
-  stands = λ bits bytes r. none_done c.args.width 0 bits bytes c.args.piece.now c.args.at.now c.args.self.now r;
-}
+loop-wanted-init c =
+    let first = c.take_number-first in
+    let few : first.result.1 ≤ c.args.width = first.ensures.few in
+    let done : c.args.width - (c.args.width - first.result.1) ≡ first.result.1 = left_of c.args.width first.result.1 few in
+    rw done (record {
+      few = omega arith;
+      small = first.ensures.small;
+      onward = omega arith;
+      within = c.requires.inside;
+      free = ap (λ (h : Hand). h.part) first.ensures.rest;
+      stands = λ bits bytes r. drawn_before bits (number_bits first.result.1 first.result.0) bytes c.args.piece.now c.args.at.now c.args.self.now first.new.self first.ensures.bits
+          (ap (λ (h : Hand). h.last) first.ensures.rest) (ap (λ (h : Hand). h.left) first.ensures.rest) r;
+    })
 
 pub returns-in-Need-clause-exact : goal.returns-in-Need-clause-exact
 returns-in-Need-clause-exact c = λ bits bytes r.
@@ -48,7 +59,7 @@ loop-wanted-preserved c =
     let count = c.min-count.result in
     let part = c.give_part-part.result in
     let h = c.ready.new.self in
-    let left : c.self.inside.left ≡ h.left = ap (λ (x : Hand). x.left) c.self.view_is in
+    let left : c.self-in-Yes.inside.left ≡ h.left = ap (λ (x : Hand). x.left) c.self-in-Yes.view_is in
     let some : 0 < h.left = c.ready.ensures.some c.in-Yes.is in
     let j : Joins done count value part = joins done count value part (omega (arith, i.few, c.min-count.ensures, c.requires.low)) i.small c.give_part-part.ensures.small in
     let more : c.args.width - (c.loop-wanted.wanted - count) ≡ done + count = omega (arith, i.few, c.min-count.ensures) in
@@ -57,6 +68,7 @@ loop-wanted-preserved c =
       small = j.small;
       onward = omega (arith, i.onward, c.ready.ensures.onward);
       within = c.ready.ensures.within;
+      free = ap (λ (x : Hand). x.part) c.give_part-part.ensures.rest ∙ (c.ready.ensures.kept ∙ i.free);
       stands = λ bits bytes r.
           let taken = bytes ++ slice_range c.args.piece.now c.args.at.now c.loop-wanted.at in
           let begun = c.ready.ensures.begun c.in-Yes.is (bits ++ number_bits done value) taken (i.stands bits bytes r) in
@@ -76,4 +88,12 @@ returns-clause-stands c = λ n e bits bytes r.
     let i = c.loop-wanted.invariant in
     let w : c.args.width - c.loop-wanted.wanted ≡ c.args.width = omega arith in
     let v : c.loop-wanted.value ≡ n = cc in
-    rw (← v) (rw w at i.stands bits bytes r)
+    rw (← v) (read_free (bits ++ number_bits c.args.width c.loop-wanted.value) (bytes ++ slice_range c.args.piece.now c.args.at.now c.loop-wanted.at) c.loop-wanted.self i.free (rw w at i.stands bits bytes r))
+
+pub returns-in-Need-clause-waits : goal.returns-in-Need-clause-waits
+returns-in-Need-clause-waits c = λ e bits bytes r.
+    let i = c.loop-wanted.invariant in
+    let done = c.args.width - c.loop-wanted.wanted in
+    let u = c.in-Need.ensures.unchanged (λ q. cc) in
+    rw u.1 (read_part bits (number_bits done c.loop-wanted.value) (bytes ++ slice_range c.args.piece.now c.args.at.now c.loop-wanted.at) c.loop-wanted.self _ refl
+    (ap (λ (h : Hand). h.last) c.self.view_is ∙ ap (λ (h : Hand). h.last) u.0) (ap (λ (h : Hand). h.left) c.self.view_is ∙ ap (λ (h : Hand). h.left) u.0) (i.stands bits bytes r))

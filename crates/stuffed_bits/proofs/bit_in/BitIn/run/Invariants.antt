@@ -1,7 +1,8 @@
 -- As many bits of this kind were read as were counted.
-use Rattle.std.proofs.Common.{◌≤◌, ◌-◌, ◌++◌, ℕ, Bool, List, length, replicate}
+use Rattle.std.proofs.Common.{◌≡◌, ◌≤◌, ◌-◌, ◌++◌, ℕ, Bool, List, length, replicate}
 use Rattle.std.specs.List.{slice_range}
-use Rattle.stuffed_bits.specs.BitsRead.{HasRead}
+use Rattle.stuffed_bits.specs.BitsRead.{HasDrawn, HasRead}
+use Rattle.stuffed_bits.specs.declared.part.Part.TheVariants.{Nothing}
 use Rattle.stuffed_bits.proofs.bit_in.BitIn.run.Given as goal
 
 abbrev pub invariant-loop-count : goal.invariant-loop-count
@@ -9,7 +10,8 @@ invariant-loop-count l = record {
   few : l.count ≤ l.most;
   onward : l.fn.at ≤ l.at;
   within : l.at ≤ length l.piece;
-  stands : (bits : List Bool) (bytes : List ℕ) → HasRead bits bytes l.fn.self → HasRead (bits ++ replicate l.count l.of) (bytes ++ slice_range l.piece l.fn.at l.at) l.self;
+  free : l.self.part ≡ Nothing;
+  stands : (bits : List Bool) (bytes : List ℕ) → HasRead bits bytes l.fn.self → HasDrawn (bits ++ replicate l.count l.of) (bytes ++ slice_range l.piece l.fn.at l.at) l.self;
 }
 
 abbrev pub decreases-loop-count : goal.decreases-loop-count

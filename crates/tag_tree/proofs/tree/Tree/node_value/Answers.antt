@@ -1,8 +1,8 @@
 -- A node's answer, by whether it was met or its label is read.
-use Rattle.std.proofs.Common.{◌≡◌, ◌<◌, ◌++◌, ℕ, List, ◌∷◌, drop, length, Some, None, refl, sym, ◌∙◌, ap, subst}
+use Rattle.std.proofs.Common.{◌≡◌, ◌<◌, ◌++◌, ℕ, List, [], ◌∷◌, drop, length, Some, None, refl, sym, ◌∙◌, ap, subst}
 use Rattle.std.specs.List.{slice_range}
 use Rattle.codestream_model.specs.TagTrees.{Seat}
-use Rattle.codestream_model.specs.PacketHeaderReading.{node_of, known_label, read_label}
+use Rattle.codestream_model.specs.PacketHeaderReading.{node_of, known_label, read_label, read_planes}
 use Rattle.stuffed_bits.specs.BitsRead.{HasRead}
 use Rattle.tag_tree.specs.Places.{place_of}
 use Rattle.tag_tree.specs.LeafReading.{told_at, met_at, Knows, behind, IsLabel}
@@ -10,6 +10,7 @@ use Rattle.tag_tree.specs.declared.tree.TreeOut.{TreeOut}
 use Rattle.tag_tree.specs.declared.tree.TreeOut.TheVariants.{Value}
 use Rattle.tag_tree.proofs.KnowLemmas.{knows_more}
 use Rattle.tag_tree.proofs.AnswerLemmas.{value_known, value_met, value_not_met, no_range}
+use Rattle.tag_tree.proofs.GoLemmas.{waits_here, known_free}
 use Rattle.tag_tree.proofs.tree.Tree.node_value.Goals as goal
 
 pub returns-in-Some-clause-read : goal.returns-in-Some-clause-read
@@ -51,7 +52,20 @@ returns-in_default-out c = record {
       k.told c.args.level s c.requires.col_in c.requires.row_in c.requires.low ∙ (ap (told_at t) (sym c.place-place.ensures.place) ∙ (sym c.told.ensures ∙ c.in_default.is)) in
       value_not_met c.args.level c.args.above s nodes done (bytes ++ drop c.args.at.now c.args.piece.now) (bytes ++ slice_range c.args.piece.now c.args.at.now c.label_from-out.new.at) t c.label_from-out.new.bits c.label_from-out.result e
       (c.label_from-out.ensures.read done bytes r) (λ v x. c.in_default-out.not-Value v x);
+  waits = λ e band nodes done bytes k r.
+      let s : Seat = record { band = band; col = c.args.col; row = c.args.row } in
+      waits_here (λ ns l. read_planes (c.args.level ∷ []) s c.args.above ns l) c.args.level nodes done (bytes ++ slice_range c.args.piece.now c.args.at.now c.label_from-out.new.at) c.args.self.now c.label_from-out.new.bits k
+      (c.label_from-out.ensures.waits e done bytes r);
+  free = λ v e. absurd (c.in_default-out.not-Value v e);
+  own = c.label_from-out.ensures.own;
+  whole = c.label_from-out.ensures.whole;
   same = record { leaves = refl; cols = refl; rows = refl; root = refl };
   onward = c.label_from-out.ensures.onward;
   within = c.label_from-out.ensures.within;
 }
+
+pub returns-in-Some-clause-free : goal.returns-in-Some-clause-free
+returns-in-Some-clause-free c = λ v e.
+    known_free c.args.level c.args.above c.args.col c.args.row c.in-Some.label v c.args.self.now c.args.bits.now e
+    (λ band nodes k. k.told c.args.level (record { band = band; col = c.args.col; row = c.args.row }) c.requires.col_in c.requires.row_in c.requires.low
+    ∙ (ap (told_at c.args.self.now) (sym c.place-place.ensures.place) ∙ (sym c.told.ensures ∙ c.in-Some.is)))
