@@ -19,19 +19,6 @@ pub fn width(leaves: u32, level: u32) -> u32
     leaves.div_ceil(1 << level)
 }
 
-/// The number of nodes of the levels below this one.
-pub fn base(cols: u32, rows: u32, level: u32) -> usize
-    requires low { level ≤ 17 }
-    requires small { cols * rows ≤ 65536 }
-    ensures { result ≡ base_of cols rows level }
-{
-    if level == 0 {
-        return 0;
-    }
-    let below = level - 1;
-    base(cols, rows, below) + width(cols, below) as usize * width(rows, below) as usize
-}
-
 /// The most levels that a tree has: those of 65,536 leaves in a row.
 pub const LEVELS: usize = 17;
 
@@ -41,8 +28,10 @@ pub fn bases(cols: u32, rows: u32) -> [usize; LEVELS]
     ensures { (level : ℕ) → level < 17 → slice_index result level ≡ base_of cols rows level }
 {
     let mut bases = [0; LEVELS];
-    for level in 0..LEVELS {
-        bases[level] = base(cols, rows, level as u32);
+    for level in 1..LEVELS {
+        let below = level as u32 - 1;
+        let nodes = width(cols, below) as usize * width(rows, below) as usize;
+        bases[level] = bases[level - 1] + nodes;
     }
     bases
 }
