@@ -139,15 +139,6 @@ read_alone gs all n blocks each bands e =
     let alone : header_of gs (take n all ++ []) ≡ Done (length (take n all)) (map block_of blocks) = header_read gs (map block_of blocks) (take n all) [] bands s in
     (same_size n (length (take n all)) (map block_of blocks) (map block_of blocks) (sym e ∙ again), ap (header_of gs) (sym (append-nil (take n all))) ∙ alone)
 
--- without EPH the answer is that for the header
-plain_by : (bytes : List ℕ) (r : HeaderReading) (answer : HeaderOut) (now : List Block) → Tells r answer now → Tells (marked_answer false bytes r) answer now
-plain_by bytes (Done used blocks) answer now t = t
-plain_by bytes Need answer now t = t
-plain_by bytes (Bad reason) answer now t = t
-
-pub plain_tells : (gs : List values.Grid) (bytes : List ℕ) (answer : HeaderOut) (now : List Block) → Tells (header_of gs bytes) answer now → Tells (marked_header_of gs false bytes) answer now
-plain_tells gs bytes answer now t = plain_by bytes (header_of gs bytes) answer now t
-
 -- what stops a reader tells no header
 no_header : (n : ℕ) (stopped : Stop) (used : ℕ) → out_at n stopped ≡ out.Done used → ⊥
 no_header n (stop.Bad reason) used e = cc
@@ -237,14 +228,6 @@ end_needs at [] e = refl
 end_needs at (b ∷ more) e = elim (eqb_tells b 146) [
   | inl t ↦ absurd (let f : out.Done (at + 1) ≡ out.Need = rw t.0 at e in cc)
   | inr t ↦ absurd (let f : out.Bad why.NoEph ≡ out.Need = rw t.0 at e in cc)
-]
-
--- the second byte is within the piece
-pub end_within : (at used : ℕ) (rest : List ℕ) → end_out at rest ≡ out.Done used → (used ≡ at + 1) × (0 < length rest)
-end_within at used [] e = absurd (cc)
-end_within at used (b ∷ more) e = elim (eqb_tells b 146) [
-  | inl t ↦ let f : out.Done (at + 1) ≡ out.Done used = rw t.0 at e in let g : at + 1 ≡ used = cc in (sym g, omega arith)
-  | inr t ↦ absurd (let f : out.Bad why.NoEph ≡ out.Done used = rw t.0 at e in cc)
 ]
 
 -- an answer, and the same counted over all bytes

@@ -337,10 +337,6 @@ header_begun gs r u h e b s none empty free read enters inclusion planes room =
 pub in_grid : (first : List Bool → Read (List values.Block)) (g : values.Grid) (later : List values.Grid) (r : BlocksReader) (bytes : List ℕ) (h : Hand) → HasTaken first r bytes h → grids_left r ≡ g ∷ later → IsInGrid g later r
 in_grid first g later r bytes h t e = let A : List values.Grid → Type 0 = λ gs. IsAmong gs r in subst A e t.among
 
-pub unread_in : (first : List Bool → Read (List values.Block)) (g : values.Grid) (later : List values.Grid) (r : BlocksReader) (bytes : List ℕ) (h : Hand) (t : HasTaken first r bytes h) → grids_left r ≡ g ∷ later
-    → IsUnread (levels_of r.trees.planes) (record { band = g.band; col = r.col; row = r.row }) t.others r.step h.part
-unread_in first g later r bytes h t e = let U : List values.Grid → Type 0 = λ gs. IsNextUnread gs r t.others h.part in subst U e t.unread
-
 -- the leaf of the first of the seats that are left
 unread_at : (levels : List ℕ) (g : values.Grid) (row col : ℕ) (others : List Node) (step : Step) (p : Part) → col < g.cols → (seats_from g row col ≡ [] → step ≡ Inclusion) → IsUnreadAt levels (seats_from g row col) others step p
     → IsUnread levels (record { band = g.band; col = col; row = row }) others step p

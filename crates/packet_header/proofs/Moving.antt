@@ -163,12 +163,6 @@ pub value_refused : {X Y : Type 0} (Z : Type 0) (first : List Bool → Read Y) (
 value_refused Z first r k after old new got v why piece same a e none = λ before done s.
     moves_same {Z = Z} first (λ l. and_then (r l) k) after old new (Err (Bad (why_of why))) same (gets_refused Z r k after old new got v why piece a e none) before done s
 
--- a call that takes no bit
-pub moves_none : {X Z : Type 0} (reading : List Bool → Read X) (s : Source) (z : Z) → Moves reading reading s s (Ok z)
-moves_none reading s z = λ before done h.
-    let P : List Bool → Type 0 = λ l. StandsAt before l s in
-    record { more = []; stands = subst P (sym (append-nil done)) h; goes_on = λ further. refl }
-
 -- a value that was got, and then a call that reads what follows it
 pub value_then : {X Y Z : Type 0} (first second third : List Bool → Read Y) (r : List Bool → Read X) (k : X → List Bool → Read Y) (old mid new : Source) (got : Result X Stop) (v : X) (out : Result Z Stop) → mid.piece.now ≡ old.piece.now → ((l : List Bool) → first l ≡ and_then (r l) k)
     → Gets r old mid got → got ≡ Ok v → ((m : List Bool) → k v m ≡ second m) → Moves second third mid new out → Moves first third old new out

@@ -18,15 +18,8 @@ shape_kept x y z a b = record { leaves = b.leaves ∙ a.leaves; cols = b.cols �
 pub same_shape : (x : Grove) → IsSameShape x x
 same_shape x = record { leaves = refl; cols = refl; rows = refl; root = refl }
 
-pub levels_kept : (x y : Grove) → IsSameShape x y → levels_of y ≡ levels_of x
-levels_kept x y a = rw (a.cols, a.rows) refl
-
 pub grid_kept : (t u : TagTrees) (cols rows : ℕ) → HasGrid t cols rows → IsSameShape t.inclusion u.inclusion → IsSameShape t.planes u.planes → HasGrid u cols rows
 grid_kept t u cols rows g a b = record { inclusion_cols = a.cols ∙ g.inclusion_cols; inclusion_rows = a.rows ∙ g.inclusion_rows; planes_cols = b.cols ∙ g.planes_cols; planes_rows = b.rows ∙ g.planes_rows }
-
--- the levels of a grid's trees
-pub grid_levels : (t : TagTrees) (g : values.Grid) → HasGrid t g.cols g.rows → levels_of t.inclusion ≡ levels_from (root_level g)
-grid_levels t g h = rw (h.inclusion_cols, h.inclusion_rows) refl
 
 -- a number within a range: those before it, it, and those behind it
 pub range_at : (a k n : ℕ) → k < n → (rest : List ℕ) × (range_with_len a n ≡ range_with_len a k ++ (a + k) ∷ rest)

@@ -6,7 +6,7 @@ use Rattle.codestream_model.proofs.BytesLemmas.{bytes_join}
 use Rattle.packet_header.specs.Answers.{Tells}
 use Rattle.packet_header.specs.Headers.{ReaderState, grids_of, Judges, counted_out}
 use Rattle.packet_header.specs.declared.reader.Stage.TheVariants.{Eph, EphEnd}
-use Rattle.packet_header.proofs.Feeds.{feeds, at_eph, end_tells}
+use Rattle.packet_header.proofs.Feeds.{feeds, at_eph, end_tells, end_waits}
 use Rattle.packet_header.proofs.reader.HeaderReader.feed.Goals as goal
 
 pub returns-in-Header-clause-answers : goal.returns-in-Header-clause-answers
@@ -50,3 +50,6 @@ returns-in-EphEnd-clause-answers c = λ bytes f.
     let r = c.args.self.now in
     let each : IsBytes c.args.piece.now = λ i. omega (arith, c.type_inv.piece i) in
     feeds (grids_of r) r.eph bytes c.args.piece.now c.end_eph.result c.args.self.now.blocks f.own_bands (bytes_join bytes c.args.piece.now f.each each) (judged_end c bytes f)
+
+pub returns-in-EphEnd-clause-fed : goal.returns-in-EphEnd-clause-fed
+returns-in-EphEnd-clause-fed c = λ need bytes f. end_waits c.args.self.now bytes c.args.piece.now c.end_eph.result f c.end_eph.ensures need
