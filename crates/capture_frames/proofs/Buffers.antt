@@ -83,7 +83,7 @@ pub record Skipping (s t : Meaning) (done len : ℕ) (es : List Event) : Type 0 
   pub many : length (effects es).read ≡ done
   pub fits : done ≤ len
 
--- reads of fewer than so many bytes after others are of fewer than more
+-- reads of fewer than n bytes after others are of fewer than more
 later_below : (n len : ℕ) (es : List Event) → effects es ≡ only_read (effects es).read → length (effects es).read + n ≤ len → (f : Effects) → Below n f → Below len (and_then (effects es) f)
 later_below n len es is room f b =
     (reads_after (effects es).read (effects es) f is b.0, omega (arith, length-append (effects es).read f.read, b.1))

@@ -1,4 +1,4 @@
--- Bytes that are taken of a duct, and of which only so many are left.
+-- Bytes taken from a duct of which only some are left to be read.
 use Rattle.std.proofs.Common.{◌≡◌, ◌<◌, ◌≤◌, ◌+◌, ℕ, List, ◌++◌, length, take, min, sym, ◌∙◌, arith, length-take-le}
 use Rattle.std.proofs.lemmas.List.{take_at}
 use Rattle.scl_outside.specs.Meaning.{Meaning}

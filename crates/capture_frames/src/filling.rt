@@ -1,4 +1,4 @@
-//! So many bytes of a duct, kept in a buffer or passed over.
+//! A number of bytes of a duct, read into a buffer or past it.
 ghost use Rattle.std.specs.Prelude.{◌≤◌, ◌<◌, ◌^◌, List, length};
 ghost use Rattle.scl_outside.specs.Events.{Event};
 ghost use Rattle.capture_frames.specs.Reading.{Fills, Skips, Takes, Fetches};
@@ -13,7 +13,7 @@ pub enum Filled {
     Failed,
 }
 
-/// How a wish for bytes ended, of which only so many were left to be read.
+/// The result of asking for a number of bytes.
 #[derive(Clone, Copy, Debug, PartialEq, Eq)]
 pub enum Fetched {
     All,
@@ -37,7 +37,7 @@ fn fill<D: Duct>(duct: &mut D, buf: &mut [u8]) -> Filled
     Filled::All
 }
 
-/// Reads so many bytes and drops them.
+/// Reads n bytes and drops them.
 fn skip<D: Duct>(duct: &mut D, len: usize, buf: &mut [u8]) -> Filled
     requires { 0 < length buf.old }
     ensures { (es : List Event) × Skips (D.meaning duct.old) (D.meaning duct.new) result len es }
@@ -54,7 +54,7 @@ fn skip<D: Duct>(duct: &mut D, len: usize, buf: &mut [u8]) -> Filled
     Filled::All
 }
 
-/// Reads so many bytes, into the front of the buffer where they fit and else passed over.
+/// Reads n bytes, into the front of the buffer where they fit and else passed over.
 fn take_bytes<D: Duct>(duct: &mut D, len: usize, buf: &mut [u8]) -> Filled
     requires { 0 < length buf.old }
     ensures { (es : List Event) × Takes (D.meaning duct.old) (D.meaning duct.new) result len buf.new es }
@@ -66,7 +66,7 @@ fn take_bytes<D: Duct>(duct: &mut D, len: usize, buf: &mut [u8]) -> Filled
     }
 }
 
-/// Reads so many bytes as `take_bytes` does, of more than `left` only one more than those.
+/// Reads n bytes as `take_bytes` does, but at most `left + 1` of them.
 pub fn fetch<D: Duct>(duct: &mut D, len: usize, left: u64, buf: &mut [u8]) -> Fetched
     requires room { 0 < length buf.old }
     requires left { left < 2 ^ 63 }

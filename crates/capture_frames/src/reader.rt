@@ -16,11 +16,11 @@ const DATAGRAM_LIMIT: usize = 9000;
 /// What came of reading a frame.
 #[derive(Clone, Copy, Debug, PartialEq, Eq)]
 pub enum FrameOut {
-    /// A frame of so many bytes, 1 to 9,000, stands at the front of the buffer.
+    /// A frame of n bytes, 1 to 9,000, is at the front of the buffer.
     Whole(usize),
     /// A frame of no bytes.
     Empty,
-    /// A frame of so many bytes, more than 9,000, was read and dropped.
+    /// A frame of n bytes, more than 9,000, was read and dropped.
     Oversize(u16),
     /// The input ended at a frame's start.
     End,

@@ -17,7 +17,7 @@ map_split f (x ∷ xs) (y ∷ ys) zs e =
     let r = map_split f xs ys zs tail in
     (x ∷ r.0, r.1, ap (λ l. x ∷ l) r.2, rw (head, r.3) refl, r.4)
 
--- the seats of a grid are of its band
+-- the positions of a grid are of its band
 pub band_of_seats : (g : Grid) → AllByRecursion (λ (s : Seat). s.band ≡ g.band) (seats g)
 band_of_seats g = all-map (IsSeat g) (λ (s : Seat). s.band ≡ g.band) (seats g) (λ s i. i.band) (seats_are_seats g)
 

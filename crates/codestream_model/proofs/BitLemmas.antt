@@ -1,11 +1,11 @@
--- Numbers as bits: a number of so many bits is spelled by them, and bits that aren't there are 0.
+-- Numbers as bits: a number of n bits is spelled by them, and bits that aren't there are 0.
 use Rattle.std.proofs.Common.{◌≡◌, ◌<◌, ◌≤◌, ◌+◌, ◌-◌, ◌*◌, ◌/◌, ◌%◌, ◌^◌, ◌==◌, ℕ, zero, suc, Bool, true, false, List, [], ◌∷◌, ◌++◌, length, take, refl, sym, ◌∙◌, ap, arith}
 use Rattle.std.proofs.lemmas.Nat.{pow_pos, pow-add, div-mul-add, div-add-mod'}
 use Rattle.std.proofs.Math.Nat.{mul-add-div_right, pow-suc, div-eq_of_lt, div-lt_iff_lt-mul, mod-lt, sub-zero}
 use Rattle.codestream_model.specs.Bytes.{bit}
 use Rattle.codestream_model.specs.StuffedBits.{number_bits, number_of}
 
--- the first so many bits, with 0 for those that aren't there
+-- the first n bits, with 0 for those that aren't there
 unfoldable pub padded : ℕ → List Bool → List Bool
 padded zero bits = []
 padded (suc n) [] = false ∷ padded n []
@@ -24,7 +24,7 @@ greater_power k j c =
     let f : 2 ^ suc k ≡ 2 ^ k * 2 = pow-suc 2 k in
     rw (e, f) (grind arith)
 
--- what a number has above so many bits doesn't show in them
+-- what a number has above n bits doesn't show in them
 pub higher_bits : (k j c v : ℕ) → number_bits k (c * 2 ^ (k + j) + v) ≡ number_bits k v
 unfolding number_bits
 higher_bits zero j c v = refl
@@ -35,7 +35,7 @@ higher_bits (suc k) j c v =
     let low : number_bits k (c * 2 ^ (suc k + j) + v) ≡ number_bits k v = rw f (higher_bits k (suc j) c v) in
     cc
 
--- so many bits spell a number that fits them
+-- n bits spell a number that fits them
 pub number_of-lt : (n : ℕ) (bits : List Bool) → number_of n bits < 2 ^ n
 unfolding number_of
 number_of-lt zero bits = omega arith
@@ -48,7 +48,7 @@ top_bit : (b : Bool) → ((bit b % 2) == 1) ≡ b
 top_bit true = refl
 top_bit false = refl
 
--- 0 in so many bits
+-- 0 in n bits
 pub number_bits-zero : (n : ℕ) → number_bits n 0 ≡ padded n []
 unfolding number_bits padded
 number_bits-zero zero = refl
@@ -69,7 +69,7 @@ bits_of_number (suc n) (b ∷ bits) =
     let low : number_bits n (bit b * 2 ^ n + number_of n bits) ≡ padded n bits = ap (λ (m : ℕ). number_bits n (bit b * 2 ^ m + number_of n bits)) (sym z) ∙ (h ∙ bits_of_number n bits) in
     cc
 
--- the bits of a number are so many
+-- n bits of a number are n
 pub number_bits-length : (n v : ℕ) → length (number_bits n v) ≡ n
 unfolding number_bits
 number_bits-length zero v = refl
@@ -82,7 +82,7 @@ padded-take zero bits h = refl
 padded-take (suc n) [] h = absurd (omega arith)
 padded-take (suc n) (b ∷ bits) h = ap (λ (l : List Bool). b ∷ l) (padded-take n bits (omega arith))
 
--- and adds bits behind what is there
+-- and adds bits after what is there
 pub padded-short : (n : ℕ) (bits : List Bool) → length bits ≤ n → padded n bits ≡ bits ++ padded (n - length bits) []
 unfolding padded
 padded-short n [] h = rw (sub-zero n) refl

@@ -36,14 +36,14 @@ deciding_front (LblockPiece n) = (drop 22 (run_of true (n - 3) false), sym (take
 deciding_front (CleanupPiece width n) = ([], sym (append-nil (piece_bits (CleanupPiece width n))))
 deciding_front (RefinePiece width n) = ([], sym (append-nil (piece_bits (RefinePiece width n))))
 
--- a front of the first part is all of it or lacks a bit
+-- a prefix of the first part is all of it or lacks a bit
 short_or_whole : (bits a b more gap : List Bool) → a ≡ bits ++ gap → bits ++ more ≡ a ++ b → ((more : List Bool) × (a ≡ bits ++ more) × (1 ≤ length more)) ⊎ ((rest : List Bool) × (bits ≡ a ++ rest) × Ends rest b)
 short_or_whole bits a b more [] t e =
     let same : bits ≡ a ++ [] = sym (append-nil bits) ∙ (sym t ∙ sym (append-nil a)) in
     inr ([], same, inr (b, refl))
 short_or_whole bits a b more (c ∷ gap) t e = inl (c ∷ gap, t, omega arith)
 
--- bits that end in two parts end before the first does, or behind it
+-- bits that end in two parts end before the first does, or after it
 ends_split : (bits a b : List Bool) → Ends bits (a ++ b) → ((more : List Bool) × (a ≡ bits ++ more) × (1 ≤ length more)) ⊎ ((rest : List Bool) × (bits ≡ a ++ rest) × Ends rest b)
 ends_split bits a b (inl (rest, e)) = inr (b ++ rest, e ∙ append_assoc a b rest, inl (rest, refl))
 ends_split bits a b (inr (more, e)) =
@@ -60,11 +60,11 @@ fault_or : (o : Option HeaderRefusal) → ((why : HeaderRefusal) × (o ≡ Some 
 fault_or (Some why) = inl (why, refl)
 fault_or None = inr refl
 
--- where a piece is sound, bits end in it or behind it
+-- where a piece is sound, bits end in it or after it
 StopOrWhole : List Piece → List Bool → Type 0
 StopOrWhole ps bits = (AllByRecursion IsSound ps × ((rest : List Bool) × (bits ≡ bits_of ps ++ rest))) ⊎ ((r : Option HeaderRefusal) × Stops ps bits r)
 
--- behind a sound piece
+-- after a sound piece
 behind_sound : (p : Piece) (ps : List Piece) (bits rest : List Bool) → IsSound p → bits ≡ piece_bits p ++ rest → StopOrWhole ps rest → StopOrWhole (p ∷ ps) bits
 unfolding StopOrWhole
 behind_sound p ps bits rest sound e (inl t) = inl ((sound, t.0), (t.1.0, e ∙ (ap (λ (l : List Bool). piece_bits p ++ l) t.1.1 ∙ sym (append_assoc (piece_bits p) (bits_of ps) t.1.0))))
@@ -124,7 +124,7 @@ place_stops : (before : List Piece) (piece : Piece) (after : List Piece) (part :
 place_stops [] piece after part r sound here = inl here
 place_stops (p ∷ before) piece after part r sound here = inr (sound.0, (bits_of before ++ part, append_assoc (piece_bits p) (bits_of before) part, place_stops before piece after part r sound.1 here))
 
--- what is read behind the first bit, where bits stop in a header's pieces
+-- what is read after the first bit, where bits stop in a header's pieces
 pub first_bit : (grids : List Grid) (bits : List Bool) → read_bits grids (true ∷ bits) ≡ read_grids grids bits
 unfolding read_bits
 first_bit grids bits = refl
@@ -146,7 +146,7 @@ end_read grids bits bands h =
     let s = subst P (sym h.pieces) (place_stops h.before h.piece h.after h.part None h.sound (h.rest, h.undecided, h.more)) in
     ap (read_bits grids) h.whole ∙ (first_bit grids (bits_of h.before ++ h.part) ∙ j.stops (bits_of h.before ++ h.part) None s)
 
--- what is read of the bits behind the first, and why
+-- what is read of the bits after the first, and why
 pub record BitsTold (grids : List Grid) (bits : List Bool) : Type 0 where
   pub blocks : List Block
   pub pieces : List Piece

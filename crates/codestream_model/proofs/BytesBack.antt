@@ -96,7 +96,7 @@ piece_refuses gs bytes NoEph t = absurd ((not_of_bytes t.fault.piece NoEph t.fau
 abbrev front_of : List ℕ → List ℕ
 front_of bytes = sound_after 0 (take 65536 bytes)
 
--- it is a front of them, and what is behind it
+-- it is a prefix of them, and what is after it
 record Fronts (bytes : List ℕ) : Type 0 where
   more : List ℕ
   seen : take 65536 bytes ≡ front_of bytes ++ more
@@ -146,7 +146,7 @@ tell_end gs bytes fits bands e =
       unfinished = elim (at_end_back gs (readable_bits bytes) bands e) [ inl t ↦ inl (no_bits 0 (front_of bytes) t) | inr t ↦ inr (inl t) ];
     })
 
--- bytes behind a last byte that are stuffed, and that a test doesn't find, aren't there
+-- bytes after a last byte that are stuffed, and that a test doesn't find, aren't there
 none_behind : (bytes front : List ℕ) (last : ℕ) (tail more : List ℕ) → last ≡ 255 → IsStuffed (front ++ last ∷ tail) → bytes ≡ front ++ last ∷ (tail ++ more) → suc (length front + length tail) ≤ length (take 65536 bytes)
     → (nat_lt (suc (length front)) (length (take 65536 bytes)) && nat_lt (slice_index bytes (suc (length front))) 128) ≡ false → tail ≡ []
 none_behind bytes front last [] more ff stuffed whole long e = refl
@@ -215,7 +215,7 @@ tell_by gs bytes (Refused why) fits bands e = tell_fault gs bytes why fits bands
 header_told : (gs : List Grid) (bytes : List ℕ) → IsBytes bytes → HaveOwnBands gs → HeaderTold gs bytes
 header_told gs bytes fits bands = tell_by gs bytes (read_bits gs (readable_bits bytes)) fits bands refl
 
--- behind a front that is as long nothing follows
+-- after a front that is as long nothing follows
 nothing_more : (all front more : List ℕ) → all ≡ front ++ more → length all ≤ length front → all ≡ front
 nothing_more all front [] e h = e ∙ append-nil front
 nothing_more all front (c ∷ more) e h = absurd (omega (arith, ap length e, length-append front (c ∷ more)))
@@ -247,7 +247,7 @@ end_broken gs bytes f w h =
       wants = subst P e.1 w;
     }
 
--- behind 65,536 bytes, or before
+-- after 65,536 bytes, or before
 end_told : (gs : List Grid) (bytes : List ℕ) → WantsMore gs (front_of bytes) → EndTold gs bytes
 end_told gs bytes w =
     let f = fronts_of bytes in

@@ -14,7 +14,7 @@ use Rattle.codestream_model.proofs.PackingLemmas.{carried-push, stuffed-cons, st
 use Rattle.codestream_model.proofs.TreeLemmas.{either}
 use Rattle.codestream_model.proofs.HeaderLemmas.{stuffed_tail, bytes_reached, byte_behind, second_behind}
 
--- the sound front of bytes is stuffed, and a front of them
+-- the sound front of bytes is stuffed, and a prefix of them
 pub sound_split : (before : ℕ) (bytes : List ℕ) → (more : List ℕ) × (bytes ≡ sound_after before bytes ++ more) × IsStuffed (sound_after before bytes) × (before ≡ 255 → slice_index (sound_after before bytes) 0 < 128)
 unfolding sound_after
 sound_split before [] = ([], refl, stuffed-nil, λ e. omega arith)
@@ -25,7 +25,7 @@ sound_split before (b ∷ bytes) = elim (either ((before == 255) && nat_le 128 b
       rw t (r.0, ap (λ (l : List ℕ). b ∷ l) r.1, stuffed-cons b (sound_after b bytes) r.3 r.2, λ e. let f : (before == 255) ≡ true = ap (λ (n : ℕ). n == 255) e in let u : nat_le 128 b ≡ false = rw f at t in leb-false 128 b u)
 ]
 
--- the bytes that carry so many bits
+-- the bytes that carry n bits
 pub split_bits : (before : ℕ) (bytes : List ℕ) (n : ℕ) → 1 ≤ n → n ≤ length (carried_after before bytes)
     → (front : List ℕ) × (last : ℕ) × (tail : List ℕ) × (bytes ≡ front ++ last ∷ tail) × (length (carried_after before front) < n) × (n ≤ length (carried_after before (front ++ last ∷ [])))
 unfolding carried_after
@@ -46,7 +46,7 @@ split_bits before (b ∷ bytes) n some high = elim (leb_tells n (width_after bef
       )
 ]
 
--- a front of stuffed bytes is stuffed
+-- a prefix of stuffed bytes is stuffed
 pub stuffed_front : (xs ys : List ℕ) → IsStuffed (xs ++ ys) → IsStuffed xs
 stuffed_front xs ys t i e = elim (cases_lt (i + 1) (length xs)) [
   | inl h ↦
@@ -91,7 +91,7 @@ record Closed (front : List ℕ) (last : ℕ) (rest : List ℕ) (blocks : List B
 done_parts : (m n : ℕ) (xs ys : List Block) → Done m xs ≡ Done n ys → (m ≡ n) × (xs ≡ ys)
 done_parts m n xs ys e = (cc, cc)
 
--- behind FF it is one byte
+-- after FF it is one byte
 closed_ff : (front : List ℕ) (last : ℕ) (rest : List ℕ) (blocks : List Block) (used : ℕ) (out : List Block) → last ≡ 255
     → suc (length front) < length (take 65536 (front ++ last ∷ rest)) → slice_index (front ++ last ∷ rest) (suc (length front)) < 128
     → (suc (length front) + 1 ≡ used) × (blocks ≡ out) → Closed front last rest blocks used out

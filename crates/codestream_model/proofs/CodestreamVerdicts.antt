@@ -1,4 +1,4 @@
--- The verdict on bytes where a codestream should begin, computed behind its main header; each thing that may be said of the bytes
+-- The verdict on bytes where a codestream should begin, computed after its main header; each thing that may be said of the bytes
 -- has one.
 use Rattle.std.proofs.Common.{◌≡◌, ◌≢◌, ◌⊎◌, ◌<◌, ◌+◌, ◌-◌, ◌==◌, ◌&&◌, ◌||◌, ℕ, Bool, true, false, List, [], ◌∷◌, ◌++◌, length, drop, subst, refl, sym, ◌∙◌, ap, inl, inr, arith, append_assoc, if◌then◌else◌}
 use Rattle.std.proofs.lemmas.Bool.{and_parts}
@@ -17,7 +17,7 @@ use Rattle.codestream_model.proofs.Orders.{packet_order_is_one}
 use Rattle.codestream_model.proofs.OneWayLemmas.{same_front}
 use Rattle.codestream_model.proofs.PacketVerdicts.{Fits, Faulty, Short, packet_step, step_fits, step_many, step_refused, step_long, step_short}
 
--- a codestream of so many bytes stands there, or it is refused at a place, or more bytes are needed
+-- a codestream of n bytes is there, or it is refused at a place, or more bytes are needed
 pub data Verdict : Type 0 where
   Whole : ℕ → Verdict
   Refuses : ℕ → WalkRefusal → Verdict
@@ -27,7 +27,7 @@ pub data Verdict : Type 0 where
 abbrev pub is_psot : Head → ℕ → Bool
 is_psot h at = (h.psot == 0) || (h.psot == at - h.sot)
 
--- where EOC should stand
+-- where EOC should be
 abbrev pub at_eoc : Bool → ℕ → List ℕ → Verdict
 at_eoc false at rest = Refuses at Psot
 at_eoc true at [] = Wants
@@ -43,7 +43,7 @@ behind h (p ∷ later) at rest = elim (packet_step h p rest) [
   | Short ↦ Wants
 ]
 
--- behind a packet
+-- after a packet
 behind_fits : (h : Head) (p : Place) (later : List Place) (at n : ℕ) (rest : List ℕ) → packet_step h p rest ≡ Fits n → behind h (p ∷ later) at rest ≡ behind h later (at + n) (drop n rest)
 unfolding behind
 behind_fits h p later at n rest e = rw (e, behind) refl
@@ -58,7 +58,7 @@ behind_short : (h : Head) (p : Place) (later : List Place) (at : ℕ) (rest : Li
 unfolding behind
 behind_short h p later at rest e = rw (e, behind) refl
 
--- where EOC should stand
+-- where EOC should be
 behind_all : (h : Head) (at : ℕ) (rest : List ℕ) (b : Bool) → is_psot h at ≡ b → behind h [] at rest ≡ at_eoc b at rest
 unfolding behind
 behind_all h at rest b e = ap (λ (c : Bool). at_eoc c at rest) e
@@ -80,7 +80,7 @@ behind_packets h (p ∷ places) later (x ∷ content) packets rest at (front, ba
     ∙ (behind_packets h places later content back rest (at + length front) more
     ∙ ap (λ (n : ℕ). behind h later n rest) size)))
 
--- behind a main header this is the verdict
+-- after a main header this is the verdict
 pub record IsVerdict (bytes : List ℕ) (v : Verdict) : Type 0 where
   pub h : Head
   pub head : List ℕ
@@ -91,7 +91,7 @@ pub record IsVerdict (bytes : List ℕ) (v : Verdict) : Type 0 where
   pub whole : bytes ≡ head ++ tail
   pub verdict : behind h places (length head) tail ≡ v
 
--- where no main header stands, by its refusal
+-- where there is no main header, by its refusal
 abbrev pub IsHeadVerdict : List ℕ → Verdict → Type 0
 IsHeadVerdict bytes v =
     (at : ℕ) × (why : HeadRefusal) × RefusesHead bytes at why

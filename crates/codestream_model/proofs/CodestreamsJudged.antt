@@ -29,7 +29,7 @@ use Rattle.codestream_model.proofs.CodestreamVerdicts.{Whole, Refuses, Wants, is
 abbrev AreJudged : List ℕ → Type 0
 AreJudged bytes = BeginWithCodestream bytes ⊎ (((at : ℕ) × (why : WalkRefusal) × RefusesCodestream bytes at why) ⊎ NeedsCodestreamBytes bytes)
 
--- bytes behind others
+-- bytes after others
 pub bytes_back : (xs ys : List ℕ) → IsBytes (xs ++ ys) → IsBytes ys
 bytes_back xs ys fits =
     let P : List ℕ → Type 0 = λ l. IsBytes l in
@@ -44,7 +44,7 @@ packets_push h (q ∷ places) [] packets p x packet s t = absurd s
 packets_push h (q ∷ places) (y ∷ content) packets p x packet (front, back, first, more, e) t =
     (front, back ++ packet, first, packets_push h places content back p x packet more t, ap (λ (l : List ℕ). l ++ packet) e ∙ append_assoc front back packet)
 
--- behind a packet
+-- after a packet
 begun_further : (h : Head) (p : Place) (later : List Place) (at : ℕ) (rest bytes : List ℕ) (x : Content) (packet more : List ℕ)
     → BeginsCodestream h (p ∷ later) at rest bytes → SpellsPacket h p x packet → rest ≡ packet ++ more → BeginsCodestream h later (at + length packet) more bytes
 begun_further h p later at rest bytes x packet more b s e =
@@ -61,7 +61,7 @@ begun_further h p later at rest bytes x packet more b s e =
       whole = b.whole ∙ ap (λ (l : List ℕ). b.head ++ l) (ap (λ (l : List ℕ). b.packets ++ l) e ∙ sym (append_assoc b.packets packet more));
     }
 
--- where EOC stands a codestream ends
+-- where EOC is, a codestream ends
 ended : (h : Head) (at : ℕ) (rest bytes more : List ℕ) → BeginsCodestream h [] at rest bytes → IsPsotRight h at → rest ≡ 255 ∷ 217 ∷ more → BeginWithCodestream bytes
 ended h at rest bytes more b psot e =
     let P : List Place → Type 0 = λ l. IsPacketOrder h l in
@@ -76,7 +76,7 @@ ended h at rest bytes more b psot e =
       split,
     )
 
--- where EOC should stand, with Psot right
+-- where EOC should be, with Psot right
 at_end_judged : (h : Head) (at : ℕ) (rest bytes : List ℕ) → BeginsCodestream h [] at rest bytes → IsPsotRight h at → AreJudged bytes
 at_end_judged h at [] bytes b psot = inr (inr (at, inr (inr (h, [], b, (psot, omega arith)))))
 at_end_judged h at (x ∷ []) bytes b psot = inr (inr (at, inr (inr (h, x ∷ [], b, (psot, omega arith)))))
@@ -91,7 +91,7 @@ at_end_judged h at (x ∷ y ∷ more) bytes b psot = elim (either ((x == 255) &&
       inr (inl (at, NoEoc, (h, x ∷ y ∷ more, b, (psot, (x, y, more, refl, differ)))))
 ]
 
--- where EOC should stand
+-- where EOC should be
 eoc_judged : (h : Head) (at : ℕ) (rest bytes : List ℕ) → BeginsCodestream h [] at rest bytes → AreJudged bytes
 eoc_judged h at rest bytes b = elim (either (is_psot h at)) [
   | inl t ↦ at_end_judged h at rest bytes b (psot_right h at t)
@@ -111,7 +111,7 @@ behind_judged h (p ∷ later) at rest bytes fits b = elim (what_stands h p rest 
   | IsShort n ↦ inr (inr (at, inr (inl (h, p, later, rest, b, n))))
 ]
 
--- a refusal for want of bytes
+-- a refusal for missing bytes
 abbrev is_cut : HeadRefusal → Bool
 is_cut HeadCut = true
 is_cut why = false
@@ -156,11 +156,11 @@ refuses_parts at place why reason e = (cc, cc)
 whole_refuses : (n at : ℕ) (why : WalkRefusal) → Whole n ≡ Refuses at why → ⊥
 whole_refuses n at why e = cc
 
--- nor want of bytes
+-- nor missing bytes
 whole_wants : (n : ℕ) → Whole n ≡ Wants → ⊥
 whole_wants n e = cc
 
--- and a refusal is no want of bytes
+-- and a refusal is no missing bytes
 refuses_wants : (at : ℕ) (why : WalkRefusal) → Refuses at why ≡ Wants → ⊥
 refuses_wants at why e = cc
 

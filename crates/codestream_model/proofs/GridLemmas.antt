@@ -1,4 +1,4 @@
--- What is needed of a grid to go through its seats, and what is known behind some of them.
+-- What is needed of a grid to go through its positions, and what is known after some of them.
 use Rattle.std.proofs.Common.{◌≡◌, ◌≤◌, ◌==◌, ◌&&◌, ℕ, suc, Bool, true, not, List, [], ◌∷◌, ◌++◌, map, refl, ◌∙◌, ap, inl, inr, arith}
 use Rattle.std.specs.List.{filter, list_any}
 use Rattle.std.proofs.lemmas.Bool.{and_parts}
@@ -11,7 +11,7 @@ use Rattle.codestream_model.specs.PacketHeaderReading.{Node, known_label}
 use Rattle.codestream_model.proofs.TreeLemmas.{AreDistinct, expected, KnowsTree, first_is}
 use Rattle.codestream_model.proofs.SeatLemmas.{distinct-filter, seats_distinct, filter_within, one_stands}
 
--- what is known of a tree of this height behind some leaves
+-- what is known of a tree of this height after some leaves
 abbrev pub KnowsBehind : ℕ → (ℕ → Seat → Bool) → Labels → List Seat → List Node → Type 0
 KnowsBehind height gives labels among nodes = (l : ℕ) (t : Seat) → l ≤ height → known_label l t nodes ≡ expected gives labels among l t
 
@@ -40,13 +40,13 @@ pub record IsGrid (g : Grid) (choices : Choices) (blocks own : List Block) : Typ
   pub own_blocks : filter (λ x. x.band == g.band) blocks ≡ own
   pub own_seats : map seat_of own ≡ filter (is_included blocks) (seats g)
 
--- the nodes that a seat of the grid is the first to meet
+-- the nodes that a position of the grid is the first to meet
 pub first_here : (g : Grid) (earlier more : List Seat) (s : Seat) → seats g ≡ earlier ++ s ∷ more → (l : ℕ) → is_first l s (seats g) ≡ not (list_any (shares l s) earlier)
 first_here g earlier more s e l =
     let d : AreDistinct (earlier ++ s ∷ more) = rw e at (seats_distinct g) in
     rw e (first_is l s earlier more d)
 
--- a code-block that stands at a seat of the grid stands there alone
+-- a code-block that is at a position of the grid is there alone
 pub alone : (g : Grid) (choices : Choices) (blocks own done left : List Block) (b : Block) → IsGrid g choices blocks own → own ≡ done ++ b ∷ left → b.band ≡ g.band → filter (stands_at (seat_of b)) blocks ≡ b ∷ []
 alone g choices blocks own done left b is o band =
     let d : AreDistinct (map seat_of own) = rw is.own_seats (distinct-filter (is_included blocks) (seats g) (seats_distinct g)) in

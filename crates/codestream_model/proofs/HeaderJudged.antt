@@ -55,7 +55,7 @@ still_starts : (before : List Segment) (s : Segment) → StartsWithSiz before �
 still_starts [] s first e = eqb-true s.marker SIZ (negated_passes (0 == 0) (s.marker == SIZ) refl e)
 still_starts (t ∷ before) s first e = first
 
--- and none that may stand once stands twice
+-- and none that is allowed once is there twice
 still_once : (before : List Segment) (s : Segment) → ((m : ℕ) → stands_once m ≡ true → count_of m before ≤ 1) → (stands_once s.marker && stands s.marker before) ≡ false → (m : ℕ) → stands_once m ≡ true → count_of m (before ++ s ∷ []) ≤ 1
 still_once before s once e m bound =
     let both : count_of m (before ++ s ∷ []) ≡ count_of m before + count_of m (s ∷ []) = count-append m before (s ∷ []) in
@@ -127,7 +127,7 @@ start_next rest main sot f =
       content = so_then (two_at rest 0 == SOT) (tile_tests main (segment_at rest).content) (content_tests (two_at rest 0) (segment_at rest).content) sot f.content;
     }
 
--- what is known of a segment that is passed over behind SOT
+-- what is known of a segment that is passed over after SOT
 whole_behind : (rest : List ℕ) → (two_at rest 0 == SOD) ≡ false → TileFacts (two_at rest 0) (two_at rest 2) (length rest) → (is_tile_marker (two_at rest 0) ≡ true) × (4 ≤ length rest) × (2 ≤ two_at rest 2) × (2 + two_at rest 2 ≤ length rest)
 whole_behind rest no_sod f =
     let known : is_tile_marker (two_at rest 0) ≡ true = one_passes (is_tile_marker (two_at rest 0)) (two_at rest 0 == SOD) f.known no_sod in (
@@ -191,7 +191,7 @@ ends_next : (b : List ℕ) (before : List Segment) (rest : List ℕ) → length 
 unfolding segment_tests
 ends_next b before rest none = rw (lt-ltb (length rest) 2 (omega arith)) refl
 
--- no more segments are read behind SOT
+-- no more segments are read after SOT
 tile_spent : (b : List ℕ) (main : List Segment) (tile : Segment) (skipped : List Segment) (rest : List ℕ) → read_tile 0 b main tile skipped rest ≡ refused b (main ++ tile ∷ skipped) (wanting b)
 unfolding read_tile
 tile_spent b main tile skipped rest = refl
@@ -201,7 +201,7 @@ main_spent : (b : List ℕ) (before : List Segment) (rest : List ℕ) → read_m
 unfolding read_main
 main_spent b before rest = refl
 
--- what is refused behind SOT is so
+-- what is refused after SOT is so
 tile_refusal : (b : List ℕ) (main : List Segment) (tile : Segment) (skipped : List Segment) (rest : List ℕ) (why : HeadRefusal) → in_reach b ≡ two_bytes SOC ++ (segments_bytes (main ++ tile ∷ skipped) ++ rest) → IsMainPart main → IsTileStart main tile → AllByRecursion IsTileSegment skipped → refusal_behind b rest ≡ Some why → Judged b (refused b (main ++ tile ∷ skipped) why)
 tile_refusal b main tile skipped rest why e part start sound first = inr (inr (record { main = main; tile = tile; skipped = skipped; rest = rest; whole = e; is_main = part; is_tile = start; is_skipped = sound; first = first; place = refl }))
 
@@ -214,7 +214,7 @@ which : (o : Option HeadRefusal) → (o ≡ None) ⊎ ((why : HeadRefusal) × (o
 which None = inl refl
 which (Some why) = inr (why, refl)
 
--- what is read behind SOT is judged right
+-- what is read after SOT is judged right
 judge_tile : (n : ℕ) (b : List ℕ) (main : List Segment) (tile : Segment) (skipped : List Segment) (rest : List ℕ) → IsBytes rest → in_reach b ≡ two_bytes SOC ++ (segments_bytes (main ++ tile ∷ skipped) ++ rest) → IsMainPart main → IsTileStart main tile → AllByRecursion IsTileSegment skipped → length rest ≤ n → Judged b (read_tile n b main tile skipped rest)
 judge_tile zero b main tile skipped rest fits e part start sound room =
     judged_at b (read_tile 0 b main tile skipped rest) (refused b (main ++ tile ∷ skipped) (wanting b)) (tile_spent b main tile skipped rest) (tile_refusal b main tile skipped rest (wanting b) e part start sound (ends_behind b rest room))
@@ -235,7 +235,7 @@ judge_tile (suc n) b main tile skipped rest fits e part start sound room = elim 
       ]
 ]
 
--- and so is what is read behind SOC
+-- and so is what is read after SOC
 judge_main : (n : ℕ) (b : List ℕ) (before : List Segment) (rest : List ℕ) → IsBytes rest → in_reach b ≡ two_bytes SOC ++ (segments_bytes before ++ rest) → IsMainPart before → length rest ≤ n → Judged b (read_main n b before rest)
 judge_main zero b before rest fits e part room =
     judged_at b (read_main 0 b before rest) (refused b before (wanting b)) (main_spent b before rest) (main_refusal b before rest (wanting b) e part (ends_next b before rest room))

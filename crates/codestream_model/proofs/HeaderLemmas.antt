@@ -42,7 +42,7 @@ sound_front before (b ∷ bytes) more first stuffed =
     ] in
     rw sound (ap (λ (l : List ℕ). b ∷ l) (sound_front b bytes more (stuffed 0) (stuffed_tail b bytes stuffed)))
 
--- the bytes that so many bits reach into
+-- the bytes that n bits reach into
 pub bytes_reached : (before : ℕ) (front : List ℕ) (last : ℕ) (more : List ℕ) (n : ℕ) → length (carried_after before front) < n → n ≤ length (carried_after before (front ++ last ∷ []))
     → bytes_of_bits before n (front ++ last ∷ more) ≡ suc (length front)
 unfolding carried_after bytes_of_bits
@@ -56,7 +56,7 @@ bytes_reached before (x ∷ front) last more n low high =
     let over : nat_le n (width_after before) ≡ false = lt-leb n (width_after before) (omega (arith, a, c)) in
     rw over (ap suc (bytes_reached x front last more (n - width_after before) (omega (arith, a, c)) (omega (arith, b, c))))
 
--- the bytes behind others
+-- the bytes after others
 pub byte_behind : (xs : List ℕ) (y : ℕ) (zs : List ℕ) → slice_index (xs ++ y ∷ zs) (length xs) ≡ y
 byte_behind [] y zs = refl
 byte_behind (x ∷ xs) y zs = byte_behind xs y zs

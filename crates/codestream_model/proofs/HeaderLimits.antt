@@ -21,7 +21,7 @@ use Rattle.codestream_model.proofs.TestLists.{checks}
 use Rattle.codestream_model.proofs.SegmentBytes.{segments-append, length-segment}
 use Rattle.codestream_model.proofs.Numbers.{great_pids_are_found}
 
--- the content of a segment that stands among sound ones meets no condition
+-- the content of a segment that is among sound ones meets no condition
 content_sound : (m : ℕ) (main : List Segment) → AllByRecursion IsMainSegment main → stands m main ≡ true → Passes (content_tests m (content_of m main))
 content_sound m [] each e = absurd (cc)
 content_sound m (s ∷ main) each e = elim (cases_Bool (s.marker == m)) [
@@ -29,7 +29,7 @@ content_sound m (s ∷ main) each e = elim (cases_Bool (s.marker == m)) [
   | inr not_here ↦ rw not_here (content_sound m main each.1 (elim (or_cases (s.marker == m) (stands m main) e) [ inl here ↦ absurd (cc) | inr there ↦ there ]))
 ]
 
--- SIZ stands where it is first and something stands
+-- SIZ is among segments where it is first and there are any
 siz_stands : (main : List Segment) → StartsWithSiz main → stands CAP main ≡ true → stands SIZ main ≡ true
 siz_stands [] first e = absurd (cc)
 siz_stands (s ∷ main) first e = or_left (s.marker == SIZ) (stands SIZ main) (rw first refl)
@@ -41,7 +41,7 @@ left_bytes xs ys fits i = elim (cases_lt i (length xs)) [
   | inr h ↦ rw (get_or_past xs i 0 h) (let e : 0 < 256 = omega arith in e)
 ]
 
--- and so are those behind them
+-- and so are those after them
 right_bytes : (xs ys : List ℕ) → IsBytes (xs ++ ys) → IsBytes ys
 right_bytes xs ys fits i = rw (← get_or-append-add xs ys i 0) (fits (length xs + i))
 

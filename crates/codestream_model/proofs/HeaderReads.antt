@@ -42,7 +42,7 @@ tile_start_facts main tile there start whole =
       content = rw sot start.content;
     }
 
--- nor does a segment that is passed over behind it, or SOD
+-- nor does a segment that is passed over after it, or SOD
 tile_segment_facts : (s : Segment) (there : ℕ) → IsTileSegment s → 2 + stated_length s.content ≤ there → TileFacts s.marker (stated_length s.content) there
 tile_segment_facts s there sound whole = record {
   marker_there = le-ltb there 2 (omega arith);
@@ -63,7 +63,7 @@ next_of b before rest m n c e f g =
     ∙ (ap (λ (x : ℕ). first_refusal (segment_tests b before m x (length rest) (segment_at rest).content)) f
     ∙ ap (λ (x : List ℕ). first_refusal (segment_tests b before m n (length rest) x)) g)
 
--- and behind SOT
+-- and after SOT
 behind_of : (b rest : List ℕ) (m n : ℕ) → two_at rest 0 ≡ m → two_at rest 2 ≡ n → refusal_behind b rest ≡ first_refusal (skipped_tests b m n (length rest))
 behind_of b rest m n e f =
     ap (λ (x : ℕ). first_refusal (skipped_tests b x (two_at rest 2) (length rest))) e
@@ -111,7 +111,7 @@ take_tile n b main tile rest start =
     ∙ (ap (λ (t : Segment). read_tile n b main t [] (behind_segment (segment_bytes tile ++ rest))) (segment_there tile rest)
     ∙ ap (λ (r : List ℕ). read_tile n b main tile [] r) (rest_there tile rest))
 
--- segments behind it are passed over
+-- segments after it are passed over
 skip_one : (n : ℕ) (b : List ℕ) (main : List Segment) (tile : Segment) (skipped : List Segment) (s : Segment) (rest : List ℕ) → IsTileSegment s → read_tile (suc n) b main tile skipped (segment_bytes s ++ rest) ≡ read_tile n b main tile (skipped ++ s ∷ []) rest
 skip_one n b main tile skipped s rest sound =
     let none : refusal_behind b (segment_bytes s ++ rest) ≡ None =
@@ -149,7 +149,7 @@ starts b rest e =
     let low : get_or b 1 0 ≡ 79 = sym (get_or-take 8192 b 1 0 (omega arith)) ∙ ap (λ (l : List ℕ). get_or l 1 0) e in
     rw (some, high, low) refl
 
--- reading goes on behind it
+-- reading goes on after it
 pub head_goes_on : (b : List ℕ) → first_refusal (soc_tests b) ≡ None → head_of b ≡ read_main (length b) b [] (drop 2 (in_reach b))
 unfolding head_of
 head_goes_on b e = ap (λ (o : Option HeadRefusal). elim o as (λ x. Result Head Refused) [
@@ -165,11 +165,11 @@ head_stops b why e = ap (λ (o : Option HeadRefusal). elim o as (λ x. Result He
   | None ↦ read_main (length b) b [] (drop 2 (in_reach b))
 ]) e
 
--- what is read behind it
+-- what is read after it
 behind_soc : (b rest : List ℕ) → in_reach b ≡ two_bytes SOC ++ rest → head_of b ≡ read_main (length b) b [] rest
 behind_soc b rest e = head_goes_on b (starts b rest e) ∙ ap (λ (r : List ℕ). read_main (length b) b [] (drop 2 r)) e
 
--- there is room for as many segments as stand within reach
+-- there is room for as many segments as are within reach
 room : (b : List ℕ) (segments : List Segment) (rest : List ℕ) → in_reach b ≡ two_bytes SOC ++ (segments_bytes segments ++ rest) → length segments + 1 ≤ length b
 room b segments rest e =
     let reach : min 8192 (length b) ≡ suc (suc (length (segments_bytes segments ++ rest))) = sym (length-take 8192 b) ∙ ap length e in
@@ -189,7 +189,7 @@ tile_bytes main tile skipped rest =
     ∙ (append_assoc (segments_bytes main) (segment_bytes tile ++ segments_bytes skipped) rest
     ∙ ap (λ (l : List ℕ). segments_bytes main ++ l) (append_assoc (segment_bytes tile) (segments_bytes skipped) rest))
 
--- what is read behind a sound SOT segment
+-- what is read after a sound SOT segment
 reach_tile : (b : List ℕ) (main : List Segment) (tile : Segment) (skipped : List Segment) (rest : List ℕ) → in_reach b ≡ two_bytes SOC ++ (segments_bytes (main ++ tile ∷ skipped) ++ rest) → IsMainPart main → IsTileStart main tile → AllByRecursion IsTileSegment skipped → (k : ℕ) × (head_of b ≡ read_tile (suc k) b main tile skipped rest)
 reach_tile b main tile skipped rest e part start passed =
     let count : length (main ++ tile ∷ skipped) ≡ length main + suc (length skipped) = length-append main (tile ∷ skipped) in
@@ -214,7 +214,7 @@ main_refused b at why r =
     let there = reach_main b r.before r.rest r.whole r.is_main in
     there.1 ∙ (main_stops there.0 b r.before r.rest why r.first ∙ ap (λ (n : ℕ). Err (record { at = n; why = why })) (sym r.place))
 
--- and one behind it
+-- and one after it
 tile_refused : (b : List ℕ) (at : ℕ) (why : HeadRefusal) → RefusesTile b at why → head_of b ≡ Err (record { at = at; why = why })
 tile_refused b at why r =
     let there = reach_tile b r.main r.tile r.skipped r.rest r.whole r.is_main r.is_tile r.is_skipped in

@@ -1,4 +1,4 @@
--- The steps of reading a main header, and what they keep: sound segments in front and the bytes behind them.
+-- The steps of reading a main header, and what they keep: sound segments in front and the bytes after them.
 use Rattle.std.proofs.Common.{◌≡◌, ◌≤◌, ◌+◌, ◌&&◌, ◌||◌, ℕ, suc, Bool, true, false, not, List, [], ◌∷◌, ◌++◌, length, refl, sym, ◌∙◌, ap, inl, inr, arith}
 use Rattle.std.specs.Prelude.{◌==◌, Option, Some, None, Result, filter}
 use Rattle.std.specs.List.{AllByRecursion}
@@ -46,14 +46,14 @@ main_step n b before rest e f = main_goes_on n b before rest e ∙ ap (λ (t : B
   | false ↦ read_main n b (before ++ segment_at rest ∷ []) (behind_segment rest)
 ]) f
 
--- or behind SOT
+-- or after SOT
 pub main_turns : (n : ℕ) (b : List ℕ) (before : List Segment) (rest : List ℕ) → refusal_next b before rest ≡ None → (two_at rest 0 == SOT) ≡ true → read_main (suc n) b before rest ≡ read_tile n b before (segment_at rest) [] (behind_segment rest)
 main_turns n b before rest e f = main_goes_on n b before rest e ∙ ap (λ (t : Bool). elim t as (λ x. Result Head Refused) [
   | true ↦ read_tile n b before (segment_at rest) [] (behind_segment rest)
   | false ↦ read_main n b (before ++ segment_at rest ∷ []) (behind_segment rest)
 ]) f
 
--- and one behind it
+-- and one after it
 pub tile_stops : (n : ℕ) (b : List ℕ) (main : List Segment) (tile : Segment) (skipped : List Segment) (rest : List ℕ) (why : HeadRefusal) → refusal_behind b rest ≡ Some why → read_tile (suc n) b main tile skipped rest ≡ refused b (main ++ tile ∷ skipped) why
 unfolding read_tile
 tile_stops n b main tile skipped rest why e = ap (λ (o : Option HeadRefusal). elim o as (λ x. Result Head Refused) [
@@ -101,7 +101,7 @@ main_not_sot m known = elim (cases_Bool (m == SOT)) [
   | inr other ↦ other
 ]
 
--- the marker of a segment behind SOT is not SOD
+-- the marker of a segment after SOT is not SOD
 pub tile_not_sod : (m : ℕ) → is_tile_marker m ≡ true → (m == SOD) ≡ false
 tile_not_sod m known = elim (cases_Bool (m == SOD)) [
   | inl same ↦
@@ -122,7 +122,7 @@ count_here m s more e = rw e refl
 pub count_not_here : (m : ℕ) (s : Segment) (more : List Segment) → (s.marker == m) ≡ false → count_of m (s ∷ more) ≡ count_of m more
 count_not_here m s more e = rw e refl
 
--- there is one where it stands
+-- there is one where it is
 pub count_if_stands : (m : ℕ) (xs : List Segment) → stands m xs ≡ true → 1 ≤ count_of m xs
 count_if_stands m [] e = absurd (cc)
 count_if_stands m (s ∷ xs) e = elim (cases_Bool (s.marker == m)) [
@@ -164,7 +164,7 @@ siz_is_first : (before : List Segment) (s : Segment) (todo : List Segment) → S
 siz_is_first [] s todo first = and_right (0 == 0) (not (s.marker == SIZ)) (not_from_true (s.marker == SIZ) (eq-eqb s.marker SIZ first))
 siz_is_first (t ∷ before) s todo first = and_left (length (t ∷ before) == 0) (not (s.marker == SIZ)) (ne_eqb (length (t ∷ before)) 0 (λ e. omega arith))
 
--- and none that may stand once stood before
+-- and none that is allowed once was there before
 once_before : (before : List Segment) (s : Segment) (todo : List Segment) → ((m : ℕ) → stands_once m ≡ true → count_of m (before ++ s ∷ todo) ≤ 1) → (stands_once s.marker && stands s.marker before) ≡ false
 once_before before s todo once = elim (cases_Bool (stands_once s.marker)) [
   | inr free ↦ and_left (stands_once s.marker) (stands s.marker before) free
@@ -179,7 +179,7 @@ once_before before s todo once = elim (cases_Bool (stands_once s.marker)) [
   ]
 ]
 
--- a sound segment behind sound ones meets no condition
+-- a sound segment after sound ones meets no condition
 pub main_segment_facts : (before : List Segment) (s : Segment) (todo : List Segment) (there : ℕ) → IsMainPart (before ++ s ∷ todo) → 2 + stated_length s.content ≤ there → MainFacts before s.marker (stated_length s.content) there s.content
 main_segment_facts before s todo there part whole =
     let sound : IsMainSegment s = (each_right IsMainSegment before (s ∷ todo) part.each).0 in

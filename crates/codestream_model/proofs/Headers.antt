@@ -26,7 +26,7 @@ small_qcd = 0xFF ∷ 0x5C ∷ 0x00 ∷ 0x04 ∷ 0x40 ∷ 0x48 ∷ []
 abbrev pub small_sot : List ℕ
 small_sot = 0xFF ∷ 0x90 ∷ 0x00 ∷ 0x0A ∷ 0x00 ∷ 0x00 ∷ 0x00 ∷ 0x00 ∷ 0x00 ∷ 0x00 ∷ 0x00 ∷ 0x01 ∷ []
 
--- the small header, of 89 bytes: COD stands at 55, QCD at 69 and SOT at 75
+-- the small header, of 89 bytes: COD is at 55, QCD at 69 and SOT at 75
 abbrev pub small_header : List ℕ
 small_header = header (small_siz ∷ small_cap ∷ small_cod ∷ small_qcd ∷ small_sot ∷ [])
 

@@ -26,7 +26,7 @@ joined-append xs ys = flat_map-append (λ (b : List ℕ). b) xs ys
 cons_both : (x y : List ℕ) (xs ys : List (List ℕ)) → x ≡ y → xs ≡ ys → x ∷ xs ≡ y ∷ ys
 cons_both x y xs ys e f = cc
 
--- of two lists of codestreams at the front of the same bytes one is the front of the other
+-- of two lists of codestreams at the front of the same bytes one is a prefix of the other
 pub lists_agree : (xs ys : List (List ℕ)) (r s : List ℕ) → AllByRecursion IsCodestream xs → AllByRecursion IsCodestream ys → joined xs ++ r ≡ joined ys ++ s
     → (more : List (List ℕ)) × ((ys ≡ xs ++ more) ⊎ (xs ≡ ys ++ more))
 lists_agree [] ys r s a b e = (ys, inl refl)
@@ -38,7 +38,7 @@ lists_agree (x ∷ xs) (y ∷ ys) r s a b e =
     let n = lists_agree xs ys r s a.1 b.1 behind in
     (n.0, elim n.1 [ inl f ↦ inl (cons_both y x ys (xs ++ n.0) (sym same) f) | inr f ↦ inr (cons_both x y xs (ys ++ n.0) same f) ])
 
--- what is refused of a rest: want of a byte at the input's end; want of one where an input may not reach; or an item
+-- what is refused of a rest: a missing byte at the input's end; a byte past the greatest offset of an input; or an item
 rest_cases : (done : ℕ) (rest : List ℕ) (at : ℕ) (why : WalkRefusal) → RefusesRest done rest at why
     → ((why ≡ Cut) × NeedsCodestreamBytes rest × (done + length rest ≤ 2 ^ 40) × (at ≡ done + length rest))
     ⊎ (((why ≡ InputTooLong) × NeedsCodestreamBytes (readable done rest) × (2 ^ 40 < done + length rest) × (at ≡ 2 ^ 40))
@@ -53,7 +53,7 @@ rest_cases done rest at Psot r = inr (inr r)
 rest_cases done rest at NoEoc r = inr (inr r)
 rest_cases done rest at TooManyFrames r = inr (inr r)
 
--- what is refused behind a place is refused of the rest
+-- what is refused after a place is refused of the rest
 pub refuse_rest : (done : ℕ) (rest : List ℕ) (inside : ℕ) (why : WalkRefusal) → RefusesCodestream (readable done rest) inside why → RefusesRest done rest (done + inside) why
 refuse_rest done rest inside Cut r = absurd r
 refuse_rest done rest inside InputTooLong r = absurd r
@@ -111,7 +111,7 @@ not_refused done rest codestream more at why c e within r =
       | inr (inr a) ↦ (codestream_verdict (readable done rest)).not_refused (codestream, take (2 ^ 40 - done - length codestream) more, c, seen) a.0 why a.1
     ]
 
--- behind the codestreams of a fault no codestream follows that is read
+-- after the codestreams of a fault no codestream follows that is read
 no_further : (input : List ℕ) (at : ℕ) (why : WalkRefusal) (f : Faults input at why) (others : List (List ℕ)) (rest codestream : List ℕ) (more : List (List ℕ))
     → input ≡ joined others ++ rest → AllByRecursion IsCodestream others → length others ≤ 65536 → length (joined others) ≤ 2 ^ 40 → others ≡ f.codestreams ++ codestream ∷ more → ⊥
 no_further input at why f others rest codestream more whole each few within e =
@@ -132,7 +132,7 @@ no_further input at why f others rest codestream more whole each few within e =
 few_before : (input : List ℕ) (at : ℕ) (why : WalkRefusal) (f : Faults input at why) → length f.codestreams ≤ 65536
 few_before input at why f = elim f.fault [ inl t ↦ omega (arith, t.0) | inr t ↦ omega (arith, t.0) ]
 
--- two faults behind the same codestreams
+-- two faults after the same codestreams
 same_faults : (n m d e : ℕ) (r s : List ℕ) (at place : ℕ) (why reason : WalkRefusal) → n ≡ m → d ≡ e → r ≡ s
     → ((n ≡ 65536) × (why ≡ TooManyFrames) × (at ≡ d)) ⊎ ((n < 65536) × RefusesRest d r at why)
     → ((m ≡ 65536) × (reason ≡ TooManyFrames) × (place ≡ e)) ⊎ ((m < 65536) × RefusesRest e s place reason) → (at ≡ place) × (why ≡ reason)
@@ -210,7 +210,7 @@ record Read (input : List ℕ) (codestreams : List (List ℕ)) (rest : List ℕ)
   each : AllByRecursion IsCodestream codestreams
   within : length (joined codestreams) ≤ 2 ^ 40
 
--- a fault behind them
+-- a fault after them
 fault_behind : (input : List ℕ) (codestreams : List (List ℕ)) (rest : List ℕ) (at : ℕ) (why : WalkRefusal) → Read input codestreams rest → 1 ≤ length rest
     → ((length codestreams ≡ 65536) × (why ≡ TooManyFrames) × (at ≡ length (joined codestreams))) ⊎ ((length codestreams < 65536) × RefusesRest (length (joined codestreams)) rest at why)
     → IsJudged input
@@ -245,7 +245,7 @@ read_further input codestreams rest codestream seen r c e =
       },
     )
 
--- behind whole codestreams, with no more bytes than so many
+-- after whole codestreams, with at most n bytes
 judged_behind : (n : ℕ) (input : List ℕ) (codestreams : List (List ℕ)) (rest : List ℕ) → length rest ≤ n → Read input codestreams rest → length codestreams ≤ 65536 → IsBytes rest → IsJudged input
 judged_behind n input codestreams [] most r few fits =
     let all : input ≡ joined codestreams = r.whole ∙ append-nil (joined codestreams) in

@@ -11,7 +11,7 @@ use Rattle.codestream_model.proofs.BitLemmas.{number_bits-length}
 use Rattle.codestream_model.proofs.ReadingLemmas.{label_read, lblock_read, passes_read, number_read, refine_pieces}
 use Rattle.codestream_model.proofs.StopLemmas.{StopsIn, stop, Judged, judged_none, judged_same, judged_one}
 
--- a front of one bit that isn't all
+-- a prefix of one bit that isn't all
 short_front : (b : Bool) (bits rest : List Bool) → b ∷ [] ≡ bits ++ rest → 1 ≤ length rest → bits ≡ []
 short_front b [] rest e h = refl
 short_front b (c ∷ bits) rest e h = absurd (omega (arith, ap length e, length-append bits rest))

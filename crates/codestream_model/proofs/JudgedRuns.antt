@@ -32,7 +32,7 @@ known_low level s (n ∷ nodes) value a e = elim (either ((level == n.level) && 
       known_low level s nodes value a.1 f
 ]
 
--- a leaf of the value tree that isn't refused has a low label, and low nodes behind it
+-- a leaf of the value tree that isn't refused has a low label, and low nodes after it
 abbrev IsLowWalk : Walked → Type 0
 IsLowWalk w = (w.label ≤ 74) × AreLow w.nodes
 
@@ -126,7 +126,7 @@ IsLimited b = b.planes ≤ 74 → IsWithinLimits b
 abbrev whole_block : Seat → ℕ → ℕ → ℕ → ℕ → Block
 whole_block s planes passes cleanup refine = record { band = s.band; col = s.col; row = s.row; planes = planes; passes = passes; cleanup = cleanup; refine = refine }
 
--- behind its refinement length,
+-- after its refinement length,
 abbrev with_refine : Seat → ℕ → ℕ → ℕ → ℕ → List Bool → Read Block
 with_refine s planes passes cleanup refine bits = Got (whole_block s planes passes cleanup refine) bits
 
@@ -165,19 +165,19 @@ block_run_judged s planes ps b r =
     let V : ℕ → Type 0 = λ x. Judged (read_block (seat_of b) x) IsLimited (segment_pieces r.lblock b) b in
     subst P (sym r.whole) (subst Q r.seat (subst V r.same (block_judged r.lblock b r.some r.few r.fits)))
 
--- how seats are read, part by part
+-- how positions are read, part by part
 abbrev behind_block : List ℕ → List Seat → List Node → List Node → Block → List Bool → Read (List Block)
 behind_block levels more inclusion planes b bits = and_then (read_seats levels more inclusion planes bits) (λ blocks rest. Got (b ∷ blocks) rest)
 
--- behind the zero bit-planes,
+-- after the zero bit-planes,
 abbrev behind_value : List ℕ → Seat → List Seat → List Node → Walked → List Bool → Read (List Block)
 behind_value levels s more inclusion value bits = and_then (read_block s value.label bits) (behind_block levels more inclusion value.nodes)
 
--- behind the inclusion of one that is included,
+-- after the inclusion of one that is included,
 abbrev behind_inclusion : List ℕ → Seat → List Seat → List Node → List Node → List Bool → Read (List Block)
 behind_inclusion levels s more inclusion planes bits = and_then (read_planes levels s 0 planes bits) (behind_value levels s more inclusion)
 
--- and behind that of any
+-- and after that of any
 abbrev behind_seat : List ℕ → Seat → List Seat → List Node → Walked → List Bool → Read (List Block)
 behind_seat levels s more planes found bits =
     read_either (found.label == 0) (behind_inclusion levels s more found.nodes planes) (λ rest. read_seats levels more found.nodes planes rest) bits
@@ -199,7 +199,7 @@ included_judged levels s more inclusion planes body tail b value others run are 
     (λ limited. judged_then (read_seats levels more inclusion value.nodes) (λ blocks bits. Got (b ∷ blocks) bits) AreLimited AreLimited tail [] others (b ∷ others) (rest low.1)
     (λ all. judged_none AreLimited (b ∷ others) (limited (omega (arith, low.0, run.block_run.same)), all)))))
 
--- the seats of a grid, from some on
+-- the positions of a grid, from some on
 seats_judged : (levels : List ℕ) (later : List Seat) (inclusion planes : List Node) (ps : List Piece) (blocks : List Block) → SeatsRun levels later inclusion planes ps blocks → AreLow planes
     → Judged (read_seats levels later inclusion planes) AreLimited ps blocks
 unfolding read_seats

@@ -47,7 +47,7 @@ level_low zero level (inr m) = absurd m
 level_low (suc height) level (inl e) = omega (arith, e)
 level_low (suc height) level (inr m) = omega (arith, level_low height level m)
 
--- a code-block stands at its own seat alone
+-- a code-block is at its own position alone
 own_seat : (s : Seat) (b : Block) → stands_at s b ≡ true → seat_of b ≡ s
 own_seat s b e =
     let p = and_parts (b.band == s.band) ((b.col == s.col) && (b.row == s.row)) e in

@@ -25,7 +25,7 @@ longest col = record { band = 0; col = col; row = 0; planes = 0; passes = 1; cle
 abbrev pub all_longest : ℕ → List Block
 all_longest n = map longest (range_with_len 0 n)
 
--- The seat of a column.
+-- The position of a column.
 abbrev seat_at : ℕ → Seat
 seat_at col = record { band = 0; col = col; row = 0 }
 
@@ -38,20 +38,20 @@ each : (P : Block → Type 0) → ((col : ℕ) → P (longest col)) → (from n 
 each P f from zero = tt
 each P f from (suc n) = (f from, each P f (from + 1) n)
 
--- A code-block of another column isn't at a seat.
+-- A code-block of another column isn't at a position.
 other_column : (s : Seat) (col : ℕ) → (col ≡ s.col → ⊥) → stands_at s (longest col) ≡ false
 other_column s col ne = rw (ne_eqb col s.col ne) (and_false (0 == s.band))
 
--- None of the code-blocks of later columns is at a seat.
+-- None of the code-blocks of later columns is at a position.
 none_behind : (s : Seat) (from n : ℕ) → s.col < from → filter (stands_at s) (map longest (range_with_len from n)) ≡ []
 none_behind s from zero lt = refl
 none_behind s from (suc n) lt = rw (other_column s from (λ e. omega (arith, e, lt))) (none_behind s (from + 1) n (omega (arith, lt)))
 
--- The code-block of its column is at a seat.
+-- The code-block of its column is at a position.
 same_column : (col : ℕ) → stands_at (seat_at col) (longest col) ≡ true
 same_column col = rw (eq-eqb col col refl) refl
 
--- Exactly one code-block is at a seat of the row.
+-- Exactly one code-block is at a position of the row.
 alone : (col from n : ℕ) → from ≤ col → col < from + n → filter (stands_at (seat_at col)) (map longest (range_with_len from n)) ≡ longest col ∷ []
 alone col from zero low high = absurd (omega (arith, low, high))
 alone col from (suc n) low high = elim (cases_lt from col) [
@@ -70,21 +70,21 @@ one_met p (x ∷ xs) ys y e = elim (cases_Bool (p x)) [
   | inr f ↦ rw f (one_met p xs ys y (rw f at e))
 ]
 
--- Each seat has an included code-block.
+-- Each position has an included code-block.
 included : (n col : ℕ) → col < n → is_included (all_longest n) (seat_at col) ≡ true
 included n col lt = one_met (stands_at (seat_at col)) (all_longest n) [] (longest col) (alone col 0 n (omega arith) (omega (arith, lt)))
 
--- The seats of the row.
+-- The positions of the row.
 seats_are : (n : ℕ) → seats (record { band = 0; cols = n; rows = 1 }) ≡ map seat_at (range_with_len 0 n)
 seats_are n = append-nil (map seat_at (range_with_len 0 n))
 
--- `filter` keeps all seats where the test holds of each.
+-- `filter` keeps all positions where the test holds of each.
 all_taken : (p : Seat → Bool) (from n : ℕ) → ((col : ℕ) → from ≤ col → col < from + n → p (seat_at col) ≡ true) → filter p (map seat_at (range_with_len from n)) ≡ map seat_at (range_with_len from n)
 all_taken p from zero f = refl
 all_taken p from (suc n) f =
     rw (f from (omega arith) (omega arith)) (ap (λ (l : List Seat). seat_at from ∷ l) (all_taken p (from + 1) n (λ col low high. f col (omega (arith, low)) (omega (arith, high)))))
 
--- The code-blocks are at these seats.
+-- The code-blocks are at these positions.
 their_seats : (from n : ℕ) → map seat_of (map longest (range_with_len from n)) ≡ map seat_at (range_with_len from n)
 their_seats from zero = refl
 their_seats from (suc n) = ap (λ (l : List Seat). seat_at from ∷ l) (their_seats (from + 1) n)
@@ -166,7 +166,7 @@ tail_length : length (bits_of tail) ≡ 31
 unfolding number_bits
 tail_length = refl
 
--- A seat has at least 31 bits, and at most two more for each level.
+-- A position has at least 31 bits, and at most two more for each level.
 seat_length : (n col : ℕ) → col < n
     → let m = length (bits_of (seat_pieces (record { band = 0; cols = n; rows = 1 }) zeros (all_longest n) (seat_at col))) in (31 ≤ m) × (m ≤ 31 + 2 * depth n)
 seat_length n col lt =
@@ -197,27 +197,27 @@ seat_length n col lt =
       ),
     )
 
--- The bits of seats in a row.
+-- The bits of positions in a row.
 abbrev row_bits : ℕ → ℕ → ℕ → List Bool
 row_bits n from m = bits_of (flat_map (seat_pieces (record { band = 0; cols = n; rows = 1 }) zeros (all_longest n)) (map seat_at (range_with_len from m)))
 
--- One more seat adds its bits.
+-- One more position adds its bits.
 row_more : (n from m : ℕ) → length (row_bits n from (suc m)) ≡ length (bits_of (seat_pieces (record { band = 0; cols = n; rows = 1 }) zeros (all_longest n) (seat_at from))) + length (row_bits n (from + 1) m)
 row_more n from m =
     let f = seat_pieces (record { band = 0; cols = n; rows = 1 }) zeros (all_longest n) in
     ap length (bits_of-append (f (seat_at from)) (flat_map f (map seat_at (range_with_len (from + 1) m)))) ∙ length-append (bits_of (f (seat_at from))) (row_bits n (from + 1) m)
 
--- Each seat has at least 31 bits.
+-- Each position has at least 31 bits.
 row_least : (n from m : ℕ) → from + m ≤ n → m * 31 ≤ length (row_bits n from m)
 row_least n from zero fits = omega arith
 row_least n from (suc m) fits = omega (arith, (seat_length n from (omega (arith, fits))).0, row_least n (from + 1) m (omega (arith, fits)), row_more n from m)
 
--- Each seat has at most 51 bits where the trees have at most ten levels.
+-- Each position has at most 51 bits where the trees have at most ten levels.
 row_most : (n from m : ℕ) → depth n ≤ 10 → from + m ≤ n → length (row_bits n from m) ≤ m * 51
 row_most n from zero low fits = omega arith
 row_most n from (suc m) low fits = omega (arith, low, (seat_length n from (omega (arith, fits))).1, row_most n (from + 1) m low (omega (arith, fits)), row_more n from m)
 
--- The header's bits are the first one and those of the seats.
+-- The header's bits are the first one and those of the positions.
 all_bits : (n : ℕ) → length (long_bits n) ≡ suc (length (row_bits n 0 n))
 all_bits n =
     let f = seat_pieces (record { band = 0; cols = n; rows = 1 }) zeros (all_longest n) in

@@ -88,7 +88,7 @@ pub each_member : {X : Type 0} (P : X → Type 0) (xs : List X) → ((z : X) →
 each_member P [] f = tt
 each_member P (x ∷ xs) f = (f x (inl refl), each_member P xs (λ z h. f z (inr h)))
 
--- each element stands so to all that follow it, by recursion
+-- each element is related so to all that follow it, by recursion
 abbrev pub Ascends : {X : Type 0} → (X → X → Type 0) → List X → Type 0
 Ascends R [] = Unit {0}
 Ascends R (x ∷ xs) = AllByRecursion (R x) xs × Ascends R xs
@@ -99,7 +99,7 @@ at_index P [] k d all lt = absurd (omega arith)
 at_index P (x ∷ xs) zero d all lt = all.0
 at_index P (x ∷ xs) (suc k) d all lt = at_index P xs k d all.1 (omega arith)
 
--- so each element stands so to each later one
+-- so each element is related so to each later one
 pub all_pairs : {X : Type 0} (R : X → X → Type 0) (xs : List X) → Ascends R xs → AllPairs R xs
 all_pairs R [] up i j d lt below = absurd (omega arith)
 all_pairs R (x ∷ xs) up zero zero d lt below = absurd (omega arith)

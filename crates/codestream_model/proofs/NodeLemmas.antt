@@ -12,7 +12,7 @@ unfolding known_label
 known_same level t s [] p = refl
 known_same level t s (n ∷ nodes) p = rw (p.0, p.1, known_same level t s nodes p) refl
 
--- what is known behind a node that is added
+-- what is known after a node that is added
 node_hit : (level v : ℕ) (s t : Seat) (nodes : List Node) → shares level t s ≡ true → known_label level t (node_of level s v ∷ nodes) ≡ Some v
 unfolding known_label
 node_hit level v s t nodes e = rw (same_number level, e) refl
@@ -48,7 +48,7 @@ add_extends level v s nodes none l t u e = elim (eqb_tells l level) [
       ])
 ]
 
--- each label that is known is within a limit, and stands in this relation to its parent's, which is known as well
+-- each label that is known is within a limit, and is in this relation to its parent's, which is known as well
 abbrev pub AreNodes : ℕ → ℕ → (ℕ → ℕ → Type 0) → List Node → Type 0
 AreNodes height limit R nodes = (l : ℕ) (t : Seat) (v : ℕ) → known_label l t nodes ≡ Some v → (v ≤ limit) × (l < height → (u : ℕ) × (known_label (l + 1) t nodes ≡ Some u) × R u v)
 

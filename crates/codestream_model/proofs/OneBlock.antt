@@ -9,7 +9,7 @@ use Rattle.codestream_model.proofs.WorkedPacketHeaders.{one_grid, block}
 abbrev pub one_choice : ℕ → ℕ → Choices
 one_choice planes lblock = record { inclusion = λ band level col row. 0; planes = λ band level col row. planes; lblock = λ s. lblock }
 
--- the only seat of a grid of one is included
+-- the only position of a grid of one is included
 included_here : (planes passes cleanup refine : ℕ) (s : Seat) → s.band ≡ 0 → s.col < 1 → s.row < 1 → ◌≡◌ {A = ℕ} 0 (if is_included (block planes passes cleanup refine ∷ []) s then 0 else 1)
 included_here planes passes cleanup refine s a b c =
     let d : s.col ≡ 0 = omega arith in

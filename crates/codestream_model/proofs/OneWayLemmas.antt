@@ -11,7 +11,7 @@ use Rattle.codestream_model.proofs.HeaderLemmas.{header_read}
 cons_both : {X : Type 0} (x y : X) (xs ys : List X) → x ≡ y → xs ≡ ys → x ∷ xs ≡ y ∷ ys
 cons_both x y xs ys e f = cc
 
--- of two fronts of a list one is the front of the other
+-- of two fronts of a list one is a prefix of the other
 pub fronts : {X : Type 0} (xs ys us vs : List X) → xs ++ us ≡ ys ++ vs → (more : List X) × ((ys ≡ xs ++ more) ⊎ (xs ≡ ys ++ more))
 fronts [] ys us vs e = (ys, inl refl)
 fronts (x ∷ xs) [] us vs e = (x ∷ xs, inr refl)

@@ -67,7 +67,7 @@ placed_later : (h : Head) (p q : Place) (qs : List Place) → is_before (key h p
 unfolding placed
 placed_later h p q qs e f = rw (e, f) refl
 
--- not at all, where one with its key stands
+-- not at all, where one with its key is there
 placed_there : (h : Head) (p q : Place) (qs : List Place) → is_before (key h p) (key h q) ≡ false → is_before (key h q) (key h p) ≡ false → placed h p (q ∷ qs) ≡ q ∷ qs
 unfolding placed
 placed_there h p q qs e f = rw (e, f) refl
@@ -115,7 +115,7 @@ placed_has h p (q ∷ qs) z m = elim (goes h p q qs) [
   | There t e ↦ inr (rw e at m)
 ]
 
--- what stood in the list still does
+-- what was in the list still is
 placed_keeps : (h : Head) (p : Place) (qs : List Place) (z : Place) → Has qs z → Has (placed h p qs) z
 placed_keeps h p [] z m = absurd m
 placed_keeps h p (q ∷ qs) z m = elim (goes h p q qs) [
@@ -124,7 +124,7 @@ placed_keeps h p (q ∷ qs) z m = elim (goes h p q qs) [
   | There t e ↦ rw e m
 ]
 
--- and what is placed stands there, where keys are distinct
+-- and what is placed is there, where keys are distinct
 placed_puts : (h : Head) (p : Place) (qs : List Place) → ((q : Place) → Has qs q → key h p ≡ key h q → p ≡ q) → Has (placed h p qs) p
 placed_puts h p [] apart = rw (placed_none h p) (inl refl)
 placed_puts h p (q ∷ qs) apart = elim (goes h p q qs) [

@@ -13,7 +13,7 @@ use Rattle.codestream_model.specs.Codestream.{WalkRefusal, TooManyBlocks, Header
 use Rattle.codestream_model.proofs.Marked.{marked_read, marked_sound, marked_refusal_read, marked_refusal_sound, marked_needs_read, marked_needs_sound}
 use Rattle.codestream_model.proofs.OwnBands.{own_bands}
 
--- a packet of so many bytes stands there, or it is refused, or more bytes are needed
+-- a packet of n bytes is there, or it is refused, or more bytes are needed
 pub data Step : Type 0 where
   Fits : ℕ → Step
   Faulty : WalkRefusal → Step
@@ -92,7 +92,7 @@ pub data Stands (h : Head) (p : Place) (bytes : List ℕ) : Type 0 where
   IsLong : IsPacketTooLong h p bytes → Stands h p bytes
   IsShort : NeedsPacketBytes h p bytes → Stands h p bytes
 
--- behind a header
+-- after a header
 segments_stand : (h : Head) (p : Place) (bytes : List ℕ) (used : ℕ) (own : List Block) → IsBytes bytes → HasFewBlocks h p → marked_header_of (grids h p) h.eph bytes ≡ Done used own → Stands h p bytes
 segments_stand h p bytes used own fits few done =
     let head = take used bytes in
@@ -121,7 +121,7 @@ header_stands h p bytes (Done used own) fits few e = segments_stand h p bytes us
 header_stands h p bytes Need fits few e = IsShort (record { few_blocks = few; unfinished = inl (marked_needs_sound (grids h p) h.eph bytes fits (own_bands h p) e) })
 header_stands h p bytes (Bad why) fits few e = IsRefused why few (marked_refusal_sound (grids h p) h.eph bytes why fits (own_bands h p) e)
 
--- one of these stands there
+-- one of these is there
 pub what_stands : (h : Head) (p : Place) (bytes : List ℕ) → IsBytes bytes → Stands h p bytes
 what_stands h p bytes fits = elim (cases_lt 65536 (block_count (grids h p))) [
   | inl many ↦ HasMany many

@@ -106,7 +106,7 @@ pack_more before bits bytes long p =
       closed = p.closed;
     }
 
--- bits packed by computing, by what is left of them behind the first byte
+-- bits packed by computing, by what is left of them after the first byte
 packed_by : (room before : ℕ) (b : Bool) (bits rest : List Bool) → drop (width_after before) (b ∷ bits) ≡ rest
     → ((c : Bool) (more : List Bool) → rest ≡ c ∷ more → PacksAfter (number_of (width_after before) (b ∷ bits)) (c ∷ more) (packed_after room (number_of (width_after before) (b ∷ bits)) (c ∷ more)))
     → PacksAfter before (b ∷ bits) (number_of (width_after before) (b ∷ bits) ∷ packed_after room (number_of (width_after before) (b ∷ bits)) rest)

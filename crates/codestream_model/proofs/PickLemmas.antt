@@ -10,13 +10,13 @@ use Rattle.codestream_model.proofs.TreeLemmas.{AreDistinct, either}
 use Rattle.codestream_model.proofs.SeatLemmas.{all-behind, row_from, rows_from, stands_here, stands_apart, stands_beside}
 use Rattle.codestream_model.proofs.RunSeatsBack.{Picked}
 
--- picked code-blocks are of the band of the seats
+-- picked code-blocks are of the band of the positions
 pub picked_band : (labels : Labels) (band : ℕ) (later : List Seat) (left : List Block) → Picked labels later left → AllByRecursion (λ (s : Seat). s.band ≡ band) later → AllByRecursion (λ (s : Seat). s.band ≡ band) (map seat_of left)
 picked_band labels band [] left p a = rw p tt
 picked_band labels band (s ∷ more) left (inl p) a = picked_band labels band more left p.1 a.1
 picked_band labels band (s ∷ more) left (inr (b, others, e, same, zero_is, p)) a = rw e (ap (λ (x : Seat). x.band) same ∙ a.0, picked_band labels band more others p a.1)
 
--- none of them stands at another seat
+-- none of them is at another position
 picked_elsewhere : (labels : Labels) (s : Seat) (later : List Seat) (left : List Block) → Picked labels later left → AllByRecursion (λ (t : Seat). ((t.col == s.col) && (t.row == s.row)) ≡ false) later → is_included left s ≡ false
 picked_elsewhere labels s [] left p a = rw p refl
 picked_elsewhere labels s (t ∷ more) left (inl p) a = picked_elsewhere labels s more left p.1 a.1
@@ -25,11 +25,11 @@ picked_elsewhere labels s (t ∷ more) left (inr (b, others, e, same, zero_is, p
     let apart : stands_at s b ≡ false = stands_apart s b (subst P (sym same) a.0) in
     rw e (rw apart (picked_elsewhere labels s more others p a.1))
 
--- of these seats those with label 0 have one
+-- of these positions those with label 0 have one
 abbrev pub TellsIncluded : Labels → List Block → Seat → Type 0
 TellsIncluded labels left s = label labels 0 s ≡ (if is_included left s then 0 else 1)
 
--- seats beside a code-block
+-- positions beside a code-block
 tell_beside : (labels : Labels) (b : Block) (others : List Block) (more : List Seat) → AllByRecursion (λ (t : Seat). ((t.col == b.col) && (t.row == b.row)) ≡ false) more
     → AllByRecursion (TellsIncluded labels others) more → AllByRecursion (TellsIncluded labels (b ∷ others)) more
 tell_beside labels b others [] d a = tt
@@ -48,7 +48,7 @@ picked_tells labels (s ∷ more) left d (inr (b, others, e, same, zero_is, p)) =
     let Q : List Block → Type 0 = λ l. AllByRecursion (TellsIncluded labels l) (s ∷ more) in
     subst Q (sym e) (first, rest)
 
--- and those that have one are the seats of the code-blocks, if these tell which are included
+-- and those that have one are the positions of the code-blocks, if these tell which are included
 pub picked_seats : (labels : Labels) (blocks : List Block) (later : List Seat) (left : List Block) → AllByRecursion (TellsIncluded labels blocks) later → Picked labels later left → map seat_of left ≡ filter (is_included blocks) later
 picked_seats labels blocks [] left t p = rw p refl
 picked_seats labels blocks (s ∷ more) left t (inl p) = elim (either (is_included blocks s)) [
@@ -60,7 +60,7 @@ picked_seats labels blocks (s ∷ more) left t (inr (b, others, e, same, zero_is
   | inr i ↦ let c : ◌≡◌ {A = ℕ} 0 1 = sym zero_is ∙ (t.0 ∙ ap (λ (b : Bool). if b then 0 else 1) i) in absurd (omega arith)
 ]
 
--- a fact of all seats of a grid, of one of them
+-- a fact of all positions of a grid, of one of them
 row_member : (P : Seat → Type 0) (band row col n c : ℕ) → AllByRecursion P (row_from band row col n) → col ≤ c → c < col + n → P (record { band = band; col = c; row = row })
 row_member P band row col zero c a low high = absurd (omega arith)
 row_member P band row col (suc n) c a low high = elim (eqb_tells col c) [

@@ -1,4 +1,4 @@
--- The pieces that a reader goes through, if it refuses nothing: by its own steps, which know the nodes of the trees behind them.
+-- The pieces that a reader goes through, if it refuses nothing: by its own steps, which know the nodes of the trees after them.
 use Rattle.std.proofs.Common.{◌≡◌, ◌≤◌, ◌⊎◌, ◌==◌, ℕ, Bool, true, false, List, [], ◌∷◌, ◌++◌, Some, None, if◌then◌else◌}
 use Rattle.codestream_model.specs.Values.{Grid, Block}
 use Rattle.codestream_model.specs.TagTrees.{Seat, seats, seat_of, root_level, levels_from}
@@ -28,7 +28,7 @@ InclusionRun (level ∷ levels) s above nodes ps w =
     ⊎ ((b : Bool) × (more : List Piece) × (known_label level s nodes ≡ None) × ((above == 0) ≡ true) × (ps ≡ InclusionPiece b ∷ more)
     × InclusionRun levels s (bit_label b) (node_of level s (bit_label b) ∷ nodes) more w))
 
--- the pieces of the rest of a code-block, whose seat and zero bit-planes are known
+-- the pieces of the rest of a code-block, whose position and zero bit-planes are known
 pub record BlockRun (s : Seat) (planes : ℕ) (ps : List Piece) (b : Block) : Type 0 where
   pub lblock : ℕ
   pub whole : ps ≡ segment_pieces lblock b
@@ -38,7 +38,7 @@ pub record BlockRun (s : Seat) (planes : ℕ) (ps : List Piece) (b : Block) : Ty
   pub few : b.passes ≤ 6
   pub fits : FitLengths lblock b
 
--- the pieces of an included code-block behind those of its inclusion
+-- the pieces of an included code-block after those of its inclusion
 pub record IncludedRun (levels : List ℕ) (s : Seat) (nodes : List Node) (ps : List Piece) (b : Block) (value : Walked) : Type 0 where
   pub planes : List Piece
   pub rest : List Piece
@@ -46,7 +46,7 @@ pub record IncludedRun (levels : List ℕ) (s : Seat) (nodes : List Node) (ps : 
   pub value_run : PlanesRun levels s 0 nodes planes value
   pub block_run : BlockRun s value.label rest b
 
--- the pieces of seats of a grid whose trees have these levels, where these nodes of both are known
+-- the pieces of positions of a grid whose trees have these levels, where these nodes of both are known
 abbrev pub SeatsRun : List ℕ → List Seat → List Node → List Node → List Piece → List Block → Type 0
 SeatsRun levels [] inclusion planes ps blocks = (ps ≡ []) × (blocks ≡ [])
 SeatsRun levels (s ∷ more) inclusion planes ps blocks =

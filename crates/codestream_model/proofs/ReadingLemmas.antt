@@ -8,7 +8,7 @@ use Rattle.codestream_model.specs.HeaderPieces.{run_of, passes_code, refine_widt
 use Rattle.codestream_model.specs.PacketHeaderReading.{Got, read_label, read_passes, read_lblock, read_number}
 use Rattle.codestream_model.proofs.BitLemmas.{number_bits-length, number_of_bits}
 
--- so many zeros and a one are a label so much greater
+-- n zeros and a one are a label that is n greater
 pub label_read : (d least : ℕ) (rest : List Bool) → least + d ≤ 74 → read_label least (run_of false d true ++ rest) ≡ Got (least + d) rest
 unfolding read_label
 label_read zero least rest h =
@@ -19,7 +19,7 @@ label_read (suc d) least rest h =
     let e : least + suc d ≡ suc least + d = omega arith in
     rw (below, e) (label_read d (suc least) rest (omega arith))
 
--- so many ones and a zero are an Lblock so much greater
+-- n ones and a zero are an Lblock that is n greater
 pub lblock_read : (d least : ℕ) (rest : List Bool) → least + d ≤ 24 → read_lblock least (run_of true d false ++ rest) ≡ Got (least + d) rest
 unfolding read_lblock
 lblock_read zero least rest h =
@@ -39,7 +39,7 @@ passes_read (suc (suc zero)) rest h t = refl
 passes_read (suc (suc (suc zero))) rest h t = refl
 passes_read (suc (suc (suc (suc n)))) rest h t = absurd (omega arith)
 
--- a number in so many bits
+-- a number in n bits
 pub number_read : (width n : ℕ) (rest : List Bool) → n < 2 ^ width → read_number width (number_bits width n ++ rest) ≡ Got n rest
 unfolding read_number
 number_read width n rest h =
@@ -51,6 +51,6 @@ number_read width n rest h =
 abbrev pub refine_pieces : ℕ → ℕ → ℕ → List Piece
 refine_pieces passes lblock refine = if passes == 1 then [] else RefinePiece (refine_width passes lblock) refine ∷ []
 
--- the pieces behind the zero bit-planes of a code-block
+-- the pieces after the zero bit-planes of a code-block
 abbrev pub segment_pieces : ℕ → Block → List Piece
 segment_pieces lblock b = PassesPiece b.passes ∷ LblockPiece lblock ∷ CleanupPiece lblock b.cleanup ∷ refine_pieces b.passes lblock b.refine

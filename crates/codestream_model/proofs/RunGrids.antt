@@ -17,7 +17,7 @@ use Rattle.codestream_model.proofs.BandLemmas.{map_split, of_band, band_of_seats
 use Rattle.codestream_model.proofs.PieceRuns.{PlanesRun, InclusionRun, IncludedRun, SeatsRun, GridsRun}
 use Rattle.codestream_model.proofs.RunTrees.{planes_run, inclusion_run}
 
--- the pieces of a seat at which no code-block is included
+-- the pieces of a position at which no code-block is included
 pub pieces_out : (g : Grid) (choices : Choices) (blocks : List Block) (s : Seat) → filter (stands_at s) blocks ≡ []
     → seat_pieces g choices blocks s ≡ map InclusionPiece (inclusion_bits g (choices.inclusion g.band) s)
 pieces_out g choices blocks s e =
@@ -28,7 +28,7 @@ pieces_out g choices blocks s e =
 abbrev pub value_pieces : Grid → Choices → List Block → Block → List Piece
 value_pieces g choices own b = map PlanesPiece (value_steps g (choices.planes g.band) (map seat_of own) (seat_of b))
 
--- the pieces of a seat at which one is included
+-- the pieces of a position at which one is included
 pub pieces_in : (g : Grid) (choices : Choices) (blocks own : List Block) (s : Seat) (b : Block) → filter (stands_at s) blocks ≡ b ∷ [] → filter (λ x. x.band == g.band) blocks ≡ own
     → seat_pieces g choices blocks s ≡ map InclusionPiece (inclusion_bits g (choices.inclusion g.band) s) ++ (value_pieces g choices own b ++ segment_pieces (choices.lblock (seat_of b)) b)
 pieces_in g choices blocks own s b e f =
@@ -44,7 +44,7 @@ pub record OwnRun (g : Grid) (choices : Choices) (b : Block) : Type 0 where
   pub passes : (1 ≤ b.passes) × (b.passes ≤ 6)
   pub fits : FitLengths (choices.lblock (seat_of b)) b
 
--- the inclusion of a seat is a run
+-- the inclusion of a position is a run
 seat_inclusion : (g : Grid) (choices : Choices) (blocks own : List Block) (earlier more : List Seat) (s : Seat) (inc : List Node)
     → IsGrid g choices blocks own → seats g ≡ earlier ++ s ∷ more → IsSeat g s
     → KnowsBehind (root_level g) (below_zero g (choices.inclusion g.band)) (choices.inclusion g.band) earlier inc
@@ -62,7 +62,7 @@ seat_inclusion g choices blocks own earlier more s inc is e i k =
     let P : ℕ → Type 0 = λ n. InclusionRun (levels_from (root_level g)) s n inc (map InclusionPiece (inclusion_bits g labels s)) (record { label = label labels 0 s; nodes = walk.0 }) in
     (walk.0, leaf_known (root_level g) (below_zero g labels) labels earlier s walk.0 walk.1, subst P (root_parent g labels s) walk.2)
 
--- a seat without a code-block, and what follows it
+-- a position without a code-block, and what follows it
 seat_out : (g : Grid) (choices : Choices) (blocks own : List Block) (earlier more : List Seat) (s : Seat) (inc pl : List Node)
     → IsGrid g choices blocks own → seats g ≡ earlier ++ s ∷ more → IsSeat g s
     → KnowsBehind (root_level g) (below_zero g (choices.inclusion g.band)) (choices.inclusion g.band) earlier inc
@@ -88,7 +88,7 @@ seat_out g choices blocks own earlier more s inc pl is e i k out =
       ),
     )
 
--- a seat with a code-block, and what follows it
+-- a position with a code-block, and what follows it
 seat_in : (g : Grid) (choices : Choices) (blocks own done left : List Block) (b : Block) (earlier more : List Seat) (inc pl : List Node)
     → IsGrid g choices blocks own → seats g ≡ earlier ++ seat_of b ∷ more → IsSeat g (seat_of b) → own ≡ done ++ b ∷ left → OwnRun g choices b
     → KnowsBehind (root_level g) (below_zero g (choices.inclusion g.band)) (choices.inclusion g.band) earlier inc
@@ -143,7 +143,7 @@ seat_in g choices blocks own done left b earlier more inc pl is e i o ob k v wit
       ),
     )
 
--- the seats of a grid, from some on
+-- the positions of a grid, from some on
 seats_run : (g : Grid) (choices : Choices) (blocks own : List Block) (earlier later : List Seat) (done left : List Block) (inc pl : List Node)
     → IsGrid g choices blocks own → seats g ≡ earlier ++ later → own ≡ done ++ left → map seat_of left ≡ filter (is_included blocks) later
     → AllByRecursion (IsSeat g) later → AllByRecursion (OwnRun g choices) left

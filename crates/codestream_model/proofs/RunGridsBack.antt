@@ -56,7 +56,7 @@ value_nodes g here own s = s.pl_rise (highest s.pl_after) (below_highest s.pl_af
 abbrev by_band : {A : Type 0} → ℕ → A → (ℕ → A) → ℕ → A
 by_band band here elsewhere x = if x == band then here else elsewhere x
 
--- the Lblock of the code-block at a seat
+-- the Lblock of the code-block at a position
 lblock_in : List Block → List ℕ → Seat → ℕ
 lblock_in [] ns s = 3
 lblock_in (b ∷ left) [] s = 3
@@ -188,7 +188,7 @@ record SaysBack (gs : List Grid) (choices : Choices) (blocks left : List Block) 
   fits : AllByRecursion (λ (b : Block). FitLengths (choices.lblock (seat_of b)) b) left
   pieces : ps ≡ header_pieces gs choices blocks
 
--- code-blocks of other bands are included at no seat of a band
+-- code-blocks of other bands are included at no position of a band
 none_in_band : (band : ℕ) (xs : List Block) (s : Seat) → AllByRecursion (λ (x : Seat). x.band ≢ band) (map seat_of xs) → s.band ≡ band → is_included xs s ≡ false
 none_in_band band [] s a e = refl
 none_in_band band (b ∷ xs) s a e =
@@ -238,7 +238,7 @@ pre_more band pre own (o ∷ os) a d p =
     let theirs : AllByRecursion (λ (x : Seat). x.band ≢ o.band) (map seat_of own) = all-map (λ (x : Seat). x.band ≡ band) (λ (x : Seat). x.band ≢ o.band) (map seat_of own) (λ x e h. d.0 (sym h ∙ e)) a in
     (rw (map-append seat_of pre own) (all-append (λ (x : Seat). x.band ≢ o.band) (map seat_of pre) (map seat_of own) p.0 theirs), pre_more band pre own os a d.1 p.1)
 
--- one grid, and those behind it
+-- one grid, and those after it
 says_grid : (g : Grid) (gs : List Grid) (choices : Choices) (pre own others : List Block) (here rest : List Piece) (s : SeatsRunBack g (seats g) [] [] here own)
     → choices.inclusion g.band ≡ label_in 1 s.inc_after → choices.planes g.band ≡ value_labels g here own s → HaveLblocks choices.lblock own s.ns
     → AllByRecursion (λ (x : Seat). x.band ≢ g.band) (map seat_of pre) → AllByRecursion (λ (x : Seat). x.band ≢ g.band) (map seat_of others)

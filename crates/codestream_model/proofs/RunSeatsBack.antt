@@ -1,4 +1,4 @@
--- A run of the seats of a grid are their pieces.
+-- A run of the positions of a grid are their pieces.
 use Rattle.std.proofs.Common.{◌≡◌, ◌≢◌, ◌≤◌, ◌⊎◌, ◌==◌, ℕ, suc, Bool, true, false, not, List, [], ◌∷◌, ◌++◌, map, refl, sym, ◌∙◌, ap, subst, inl, inr, arith, append_assoc, if◌then◌else◌}
 use Rattle.std.specs.List.{AllByRecursion, filter, flat_map, list_any}
 use Rattle.std.proofs.lemmas.Bool.Decides.{eqb_tells}
@@ -19,7 +19,7 @@ use Rattle.codestream_model.proofs.RunTrees.{planes_pieces, inclusion_pieces}
 use Rattle.codestream_model.proofs.RunGrids.{value_pieces, pieces_out, pieces_in}
 use Rattle.codestream_model.proofs.RunTreesBack.{Agrees, IsBelowZero, NodesRise, levels_down, PlanesBack, planes_back, InclusionBack, inclusion_back}
 
--- a tree's labels pick these code-blocks from these seats: a seat with label 0 has the next one
+-- a tree's labels pick these code-blocks from these positions: a position with label 0 has the next one
 abbrev pub Picked : Labels → List Seat → List Block → Type 0
 Picked labels [] left = left ≡ []
 Picked labels (s ∷ more) left =
@@ -38,7 +38,7 @@ CanHave [] ns = Unit {0}
 CanHave (b ∷ left) [] = ⊥
 CanHave (b ∷ left) (n ∷ ns) = (((1 ≤ b.passes) × (b.passes ≤ 6)) × FitLengths n b) × CanHave left ns
 
--- what a run of seats of a grid is
+-- what a run of positions of a grid is
 pub record SeatsRunBack (g : Grid) (later : List Seat) (inc pl : List Node) (ps : List Piece) (left : List Block) : Type 0 where
   pub inc_after : List Node
   pub pl_after : List Node
@@ -72,7 +72,7 @@ not_zero n e z = elim (eqb_tells n 0) [ inl t ↦ let c : true ≡ false = sym t
 abbrev top : Grid → ℕ
 top g = suc (root_level g)
 
--- a seat without a code-block, and what follows it
+-- a position without a code-block, and what follows it
 run_out : (g : Grid) (s : Seat) (more : List Seat) (inc pl : List Node) (own rest : List Piece) (found : Walked) (left : List Block) → (found.label == 0) ≡ false
     → InclusionBack g s (top g) 0 inc own found → SeatsRunBack g more found.nodes pl rest left → SeatsRunBack g (s ∷ more) inc pl (own ++ rest) left
 run_out g s more inc pl own rest found left z b r = record {
@@ -109,7 +109,7 @@ run_out g s more inc pl own rest found left z b r = record {
       ap (λ (x : List Piece). x ++ rest) here ∙ ap (λ (x : List Piece). seat_pieces g choices blocks s ++ x) n;
 }
 
--- a seat with a code-block, and what follows it
+-- a position with a code-block, and what follows it
 run_in : (g : Grid) (b : Block) (more : List Seat) (inc pl : List Node) (own vps bps tail : List Piece) (found value : Walked) (others : List Block) → (found.label == 0) ≡ true
     → InclusionBack g (seat_of b) (top g) 0 inc own found → PlanesBack g (seat_of b) (top g) 0 pl vps value → BlockRun (seat_of b) value.label bps b
     → SeatsRunBack g more found.nodes value.nodes tail others → SeatsRunBack g (seat_of b ∷ more) inc pl (own ++ ((vps ++ bps) ++ tail)) (b ∷ others)
@@ -160,7 +160,7 @@ run_in g b more inc pl own vps bps tail found value others z ib vb bb r =
           whole ∙ (sym (append_assoc ip (vp ++ sp) rest) ∙ ap (λ (x : List Piece). x ++ rest) (sym (pieces_in g choices blocks all s b one is.own_blocks)));
     }
 
--- no seats
+-- no positions
 run_none : (g : Grid) (inc pl : List Node) → AreNodes (root_level g) 1 IsBelowZero inc → NodesRise (root_level g) pl → SeatsRunBack g [] inc pl [] []
 run_none g inc pl si sp = record {
   inc_after = inc;
@@ -176,7 +176,7 @@ run_none g inc pl si sp = record {
   given = λ choices blocks own earlier done is e o i ls ai ap' ki kp. refl;
 }
 
--- the seats of a grid, from some on
+-- the positions of a grid, from some on
 pub seats_run_back : (g : Grid) (later : List Seat) (inc pl : List Node) (ps : List Piece) (left : List Block) → AreNodes (root_level g) 1 IsBelowZero inc → NodesRise (root_level g) pl
     → SeatsRun (levels_from (root_level g)) later inc pl ps left → SeatsRunBack g later inc pl ps left
 seats_run_back g [] inc pl ps left si sp (none, e) =

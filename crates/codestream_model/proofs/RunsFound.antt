@@ -18,7 +18,7 @@ use Rattle.codestream_model.proofs.NodeLemmas.{known_or}
 use Rattle.codestream_model.proofs.PieceRuns.{PlanesRun, bit_label, InclusionRun, BlockRun, SeatsRun, GridsRun}
 use Rattle.codestream_model.proofs.StopLemmas.{bits_of-append}
 
--- bits begin with all of these, or are a front of them
+-- bits begin with all of these, or are a prefix of them
 abbrev pub Ends : List Bool → List Bool → Type 0
 Ends bits all = ((rest : List Bool) × (bits ≡ all ++ rest)) ⊎ ((more : List Bool) × (bits ++ more ≡ all))
 
@@ -42,7 +42,7 @@ IsRising (LblockPiece n) = Unit {0}
 IsRising (CleanupPiece width n) = Unit {0}
 IsRising (RefinePiece width n) = Unit {0}
 
--- a run whose bits the bits begin with, or are a front of
+-- a run whose bits the bits begin with, or are a prefix of
 pub record Found {A : Type 0} (Run : List Piece → A → Type 0) (bits : List Bool) : Type 0 where
   pub pieces : List Piece
   pub value : A
@@ -50,7 +50,7 @@ pub record Found {A : Type 0} (Run : List Piece → A → Type 0) (bits : List B
   pub rising : AllByRecursion IsRising pieces
   pub ends : Ends bits (bits_of pieces)
 
--- so many bits of one kind, and one of the other
+-- n bits of one kind, and one of the other
 run_found : (b : Bool) (bits : List Bool) → (d : ℕ) × Ends bits (run_of b d (not b))
 run_found b [] = (0, inr (not b ∷ [], refl))
 run_found true (false ∷ bits) = (0, inl (bits, refl))
@@ -76,7 +76,7 @@ passes_found (true ∷ true ∷ false ∷ true ∷ bits) = (4, omega arith, omeg
 passes_found (true ∷ true ∷ true ∷ false ∷ bits) = (5, omega arith, omega arith, inl (bits, refl))
 passes_found (true ∷ true ∷ true ∷ true ∷ bits) = (6, omega arith, omega arith, inl (bits, refl))
 
--- a number of so many bits
+-- a number of n bits
 number_found : (width : ℕ) (bits : List Bool) → (n : ℕ) × (n < 2 ^ width) × Ends bits (number_bits width n)
 number_found width bits = (
   number_of width bits,
@@ -101,7 +101,7 @@ refine_found passes lblock bits = elim (eqb_tells passes 1) [
       (f.0, λ h. f.1, λ h. absurd (t.1 h), subst P (sym one) f.2)
 ]
 
--- no step stands among refinement lengths
+-- no step is among refinement lengths
 rising_refine : (passes lblock n : ℕ) → AllByRecursion IsRising (refine_pieces passes lblock n)
 rising_refine passes lblock n = elim (either (passes == 1)) [ inl t ↦ rw t tt | inr t ↦ rw t (tt, tt) ]
 
@@ -175,7 +175,7 @@ inclusion_found (level ∷ levels) s above nodes bits = elim (known_or (known_la
 ends_both : (bits mid : List Bool) (ps qs : List Piece) → ((others : List Bool) → Ends mid others → Ends bits (bits_of ps ++ others)) → Ends mid (bits_of qs) → Ends bits (bits_of (ps ++ qs))
 ends_both bits mid ps qs f e = let P : List Bool → Type 0 = λ l. Ends bits l in subst P (sym (bits_of-append ps qs)) (f (bits_of qs) e)
 
--- the seats of a grid
+-- the positions of a grid
 seats_found : (levels : List ℕ) (later : List Seat) (inclusion planes : List Node) (bits : List Bool) → Found (SeatsRun levels later inclusion planes) bits
 seats_found levels [] inclusion planes bits = record { pieces = []; value = []; run = (refl, refl); rising = tt; ends = inl (bits, refl) }
 seats_found levels (s ∷ more) inclusion planes bits =

@@ -1,4 +1,4 @@
--- The seats of grids: they are distinct, and each is one of its grid.
+-- The positions of grids: they are distinct, and each is one of its grid.
 use Rattle.std.proofs.Common.{◌≡◌, ◌≢◌, ◌<◌, ◌≤◌, ◌+◌, ◌==◌, ◌&&◌, ◌||◌, ℕ, zero, suc, Bool, true, false, List, [], ◌∷◌, ◌++◌, map, refl, sym, ◌∙◌, ap, inl, inr, arith}
 use Rattle.std.specs.List.{AllByRecursion, filter, flat_map, list_any, range_with_len}
 use Rattle.std.proofs.lemmas.Bool.Decides.{eqb_tells}
@@ -13,7 +13,7 @@ pub all-append : {X : Type 0} (P : X → Type 0) (xs ys : List X) → AllByRecur
 all-append P [] ys a b = b
 all-append P (x ∷ xs) ys a b = (a.0, all-append P xs ys a.1 b)
 
--- a fact of all items, of those behind some
+-- a fact of all items, of those after some
 pub all-behind : {X : Type 0} (P : X → Type 0) (xs ys : List X) → AllByRecursion P (xs ++ ys) → AllByRecursion P xs × AllByRecursion P ys
 all-behind P [] ys a = (tt, a)
 all-behind P (x ∷ xs) ys a =
@@ -33,7 +33,7 @@ all-filter P test (x ∷ xs) a = elim (either (test x)) [
   | inr t ↦ rw t (all-filter P test xs a.1)
 ]
 
--- distinct seats that pass a test are distinct
+-- distinct positions that pass a test are distinct
 pub distinct-filter : (test : Seat → Bool) (xs : List Seat) → AreDistinct xs → AreDistinct (filter test xs)
 distinct-filter test [] d = tt
 distinct-filter test (x ∷ xs) d = elim (either (test x)) [
@@ -41,17 +41,17 @@ distinct-filter test (x ∷ xs) d = elim (either (test x)) [
   | inr t ↦ rw t (distinct-filter test xs d.1)
 ]
 
--- distinct seats behind others that are distinct from them all
+-- distinct positions after others that are distinct from them all
 distinct-append : (xs ys : List Seat) → AreDistinct xs → AreDistinct ys
     → AllByRecursion (λ x. AllByRecursion (λ t. ((t.col == x.col) && (t.row == x.row)) ≡ false) ys) xs → AreDistinct (xs ++ ys)
 distinct-append [] ys a b c = b
 distinct-append (x ∷ xs) ys a b c = (all-append (λ (t : Seat). ((t.col == x.col) && (t.row == x.row)) ≡ false) xs ys a.0 c.0, distinct-append xs ys a.1 b c.1)
 
--- the seats of a row, from a column on
+-- the positions of a row, from a column on
 abbrev pub row_from : ℕ → ℕ → ℕ → ℕ → List Seat
 row_from band row col n = map (λ c. record { band = band; col = c; row = row }) (range_with_len col n)
 
--- the seats of rows of so many columns, from a row on
+-- the positions of rows of n columns, from a row on
 abbrev pub rows_from : ℕ → ℕ → ℕ → ℕ → List Seat
 rows_from band cols row n = flat_map (λ r. row_from band r 0 cols) (range_with_len row n)
 
@@ -59,17 +59,17 @@ rows_from band cols row n = flat_map (λ r. row_from band r 0 cols) (range_with_
 differ : (a b : ℕ) → (a ≢ b) → (a == b) ≡ false
 differ a b h = elim (eqb_tells a b) [ inl t ↦ absurd (h t.1) | inr t ↦ t.0 ]
 
--- the seats of a row to the right of a column are others than one in it
+-- the positions of a row to the right of a column are others than one in it
 row_beside : (band row col n : ℕ) (x : Seat) → x.col < col → AllByRecursion (λ t. ((t.col == x.col) && (t.row == x.row)) ≡ false) (row_from band row col n)
 row_beside band row col zero x h = tt
 row_beside band row col (suc n) x h = (rw (differ col x.col (λ e. omega arith)) refl, row_beside band row (col + 1) n x (omega arith))
 
--- the seats of a row are distinct
+-- the positions of a row are distinct
 row_distinct : (band row col n : ℕ) → AreDistinct (row_from band row col n)
 row_distinct band row col zero = tt
 row_distinct band row col (suc n) = (row_beside band row (col + 1) n (record { band = band; col = col; row = row }) (omega arith), row_distinct band row (col + 1) n)
 
--- the seats of a row are others than one in a row above
+-- the positions of a row are others than one in a row above
 row_below : (band row col n : ℕ) (x : Seat) → x.row < row → AllByRecursion (λ t. ((t.col == x.col) && (t.row == x.row)) ≡ false) (row_from band row col n)
 row_below band row col zero x h = tt
 row_below band row col (suc n) x h = (rw (differ row x.row (λ e. omega arith)) (and_false (col == x.col)), row_below band row (col + 1) n x h)
@@ -80,19 +80,19 @@ rows_below band cols row (suc n) x h =
     all-append (λ (t : Seat). ((t.col == x.col) && (t.row == x.row)) ≡ false) (row_from band row 0 cols) (rows_from band cols (row + 1) n)
     (row_below band row 0 cols x h) (rows_below band cols (row + 1) n x (omega arith))
 
--- each seat of a row is above the rows below it
+-- each position of a row is above the rows below it
 row_above : (band cols row col m n : ℕ) → AllByRecursion (λ x. AllByRecursion (λ t. ((t.col == x.col) && (t.row == x.row)) ≡ false) (rows_from band cols (row + 1) n)) (row_from band row col m)
 row_above band cols row col zero n = tt
 row_above band cols row col (suc m) n =
     (rows_below band cols (row + 1) n (record { band = band; col = col; row = row }) (omega arith), row_above band cols row (col + 1) m n)
 
--- the seats of rows are distinct
+-- the positions of rows are distinct
 rows_distinct : (band cols row n : ℕ) → AreDistinct (rows_from band cols row n)
 rows_distinct band cols row zero = tt
 rows_distinct band cols row (suc n) =
     distinct-append (row_from band row 0 cols) (rows_from band cols (row + 1) n) (row_distinct band row 0 cols) (rows_distinct band cols (row + 1) n) (row_above band cols row 0 cols n)
 
--- the seats of a grid are distinct
+-- the positions of a grid are distinct
 pub seats_distinct : (g : Grid) → AreDistinct (seats g)
 seats_distinct g = rows_distinct g.band g.cols 0 g.rows
 
@@ -116,7 +116,7 @@ eqb_sym a b = elim (eqb_tells a b) [
   | inr t ↦ t.0 ∙ elim (eqb_tells b a) [ inl u ↦ absurd (t.1 (sym u.1)) | inr u ↦ sym u.0 ]
 ]
 
--- a code-block that isn't included stands nowhere
+-- a code-block that isn't included is at no position
 pub none_stands : (s : Seat) (blocks : List Block) → is_included blocks s ≡ false → filter (stands_at s) blocks ≡ []
 none_stands s [] e = refl
 none_stands s (b ∷ blocks) e = elim (either (stands_at s b)) [
@@ -135,7 +135,7 @@ filter_within {X} p q (x ∷ xs) f = elim (either (p x)) [
   ]
 ]
 
--- a code-block stands at its own seat alone
+-- a code-block is at its own position alone
 pub stands_beside : (s : Seat) (b : Block) → ((s.col == b.col) && (s.row == b.row)) ≡ false → stands_at s b ≡ false
 stands_beside s b e =
     let f : ((b.col == s.col) && (b.row == s.row)) ≡ false = rw (eqb_sym b.col s.col, eqb_sym b.row s.row) e in
@@ -144,12 +144,12 @@ stands_beside s b e =
 pub stands_apart : (s : Seat) (b : Block) → ((b.col == s.col) && (b.row == s.row)) ≡ false → stands_at s b ≡ false
 stands_apart s b e = ap (λ (x : Bool). (b.band == s.band) && x) e ∙ and_false (b.band == s.band)
 
--- no code-block that stands elsewhere passes
+-- no code-block at another position passes
 none_pass : (s : Seat) (blocks : List Block) → AllByRecursion (λ (t : Seat). ((t.col == s.col) && (t.row == s.row)) ≡ false) (map seat_of blocks) → filter (stands_at s) blocks ≡ []
 none_pass s [] a = refl
 none_pass s (b ∷ blocks) a = rw (stands_apart s b a.0) (none_pass s blocks a.1)
 
--- a code-block stands at its own seat
+-- a code-block is at its own position
 pub stands_here : (b : Block) → stands_at (seat_of b) b ≡ true
 stands_here b = rw (same_number b.band, same_number b.col, same_number b.row) refl
 
@@ -158,7 +158,7 @@ pub among_map : {X Y : Type 0} (P : Y → Type 0) (f : X → Y) (xs : List X) (x
 among_map P f [] x ys a = a.0
 among_map P f (y ∷ xs) x ys a = among_map P f xs x ys a.1
 
--- of code-blocks with distinct seats one alone stands at a seat
+-- of code-blocks with distinct positions one alone is at a position
 pub one_stands : (b : Block) (done left : List Block) → AreDistinct (map seat_of (done ++ b ∷ left)) → filter (stands_at (seat_of b)) (done ++ b ∷ left) ≡ b ∷ []
 one_stands b [] left d = rw (stands_here b) (ap (λ (l : List Block). b ∷ l) (none_pass (seat_of b) left d.0))
 one_stands b (x ∷ done) left d =

@@ -42,11 +42,11 @@ segment_there s rest =
     let e : record { marker = two_at (segment_bytes s ++ rest) 0; content = slice_range (segment_bytes s ++ rest) 4 (2 + two_at (segment_bytes s ++ rest) 2) } ≡ record { marker = s.marker; content = s.content } = cc in
     e
 
--- what is behind a segment of a length
+-- what is after a segment of a length
 behind_there : (s : Segment) (rest : List ℕ) (n : ℕ) → n ≡ stated_length s.content → drop (2 + n) (segment_bytes s ++ rest) ≡ rest
 behind_there s rest n e = drop_at (segment_bytes s) rest (2 + n) (length-segment s ∙ omega arith)
 
--- what is behind it
+-- what is after it
 pub rest_there : (s : Segment) (rest : List ℕ) → behind_segment (segment_bytes s ++ rest) ≡ rest
 rest_there s rest = behind_there s rest (two_at (segment_bytes s ++ rest) 2) (length_there s rest)
 
@@ -63,7 +63,7 @@ pub few_segments : (xs : List Segment) → length xs * 4 ≤ length (segments_by
 few_segments [] = omega arith
 few_segments (s ∷ xs) = omega (arith, few_segments xs, length-append (segment_bytes s) (segments_bytes xs), length-segment s)
 
--- bytes behind bytes are bytes
+-- bytes after bytes are bytes
 pub bytes-drop : (n : ℕ) (b : List ℕ) → IsBytes b → IsBytes (drop n b)
 bytes-drop n b fits i = rw (get_or-drop n b i 0) (fits (n + i))
 
@@ -94,7 +94,7 @@ content_length b n two whole =
 pub segment_length : (b : List ℕ) → 2 ≤ two_at b 2 → 2 + two_at b 2 ≤ length b → stated_length (segment_at b).content ≡ two_at b 2
 segment_length b two whole = content_length b (two_at b 2) two whole
 
--- the content and what is behind it are the rest
+-- the content and what is after it are the rest
 joined : (x y z w : ℕ) (b : List ℕ) (n : ℕ) → 2 ≤ n → slice_range (x ∷ y ∷ z ∷ w ∷ b) 4 (2 + n) ++ drop (2 + n) (x ∷ y ∷ z ∷ w ∷ b) ≡ b
 joined x y z w b n two =
     let size : 2 + n - 4 ≡ n - 2 = omega arith in

@@ -1,4 +1,4 @@
--- What is read of a main header stands when more bytes follow, and so does a refusal, but for want of bytes.
+-- What is read of a main header stays when more bytes follow, and so does a refusal, unless it is for missing bytes.
 use Rattle.std.proofs.Common.{◌≡◌, ◌≢◌, ◌<◌, ◌≤◌, ◌+◌, ◌-◌, ◌*◌, ◌⊎◌, ℕ, Bool, true, false, not, List, [], ◌∷◌, ◌++◌, length, get_or, take, drop, refl, sym, ◌∙◌, ap, inl, inr, subst, arith, append_assoc}
 use Rattle.std.specs.Prelude.{◌==◌, nat_lt, Option, Some, Result, MatchResult, slice_range, if◌then◌else◌}
 use Rattle.std.proofs.lemmas.Bool.{cases_Bool, cases_lt, lt-ltb, le-ltb}
@@ -15,7 +15,7 @@ use Rattle.codestream_model.specs.MainHeaderLaws.{HeaderStands, RefusalStands}
 use Rattle.codestream_model.proofs.HeaderReads.{header_is_read_one_way, take_past}
 use Rattle.codestream_model.proofs.HeaderJudged.{headers_are_judged}
 
--- of two lists of conditions the one is met where the other is, up to a want of bytes in the first
+-- of two lists of conditions the one is met where the other is, up to a missing bytes in the first
 abbrev Keeps : List Test → List Test → Type 0
 Keeps [] tests = Unit {0}
 Keeps (t ∷ tests) [] = ⊥
@@ -28,12 +28,12 @@ keeps_first false false v w x y why s t u e = u e
 keeps_first true false v w x y why s t u e = absurd (cc)
 keeps_first false true v w x y why s t u e = absurd (cc)
 
--- a want of bytes that is met first is the refusal
+-- a missing bytes that is met first is the refusal
 cut_first : (f : Bool) (v : HeadRefusal) (x : Option HeadRefusal) (why : HeadRefusal) → v ≡ Cut → f ≡ true → (if f then Some v else x) ≡ Some why → why ≡ Cut
 cut_first true v x why s t e = cc
 cut_first false v x why s t e = absurd (cc)
 
--- so a refusal but for want of bytes is the same in both
+-- so a refusal but for missing bytes is the same in both
 first_stands : (tests more : List Test) (why : HeadRefusal) → why ≢ Cut → Keeps tests more → first_refusal tests ≡ Some why → first_refusal more ≡ Some why
 first_stands [] more why other k e = absurd (cc)
 first_stands (t ∷ tests) [] why other k e = absurd k
@@ -49,7 +49,7 @@ keeps_same (t ∷ tests) = inr (refl, λ e. refl, keeps_same tests)
 neither : (f g : Bool) (v w : HeadRefusal) → f ≡ false → g ≡ false → (f ≡ g) × (f ≡ true → v ≡ w)
 neither f g v w a b = (a ∙ sym b, λ c. absurd (cc))
 
--- the conditions on a segment, with more bytes behind it
+-- the conditions on a segment, with more bytes after it
 segment_keeps : (b d : List ℕ) (before : List Segment) (m n there m2 n2 there2 : ℕ) (c c2 : List ℕ) → wanting b ≡ Cut → there ≤ there2 → (2 ≤ there → m2 ≡ m) → (4 ≤ there → n2 ≡ n) → (4 ≤ there → 2 + n ≤ there → c2 ≡ c) → Keeps (segment_tests b before m n there c) (segment_tests d before m2 n2 there2 c2)
 unfolding segment_tests
 segment_keeps b d before m n there m2 n2 there2 c c2 cut grows same_m same_n same_c = elim (cases_lt there 2) [
@@ -152,17 +152,17 @@ skipped_keeps b d m n there m2 n2 there2 cut grows same_m same_n = elim (cases_l
 pub two_at-append : (at : ℕ) (b more : List ℕ) → at + 2 ≤ length b → two_at (b ++ more) at ≡ two_at b at
 two_at-append at b more some = ap (λ (x : ℕ). x * 256 + get_or (b ++ more) (at + 1) 0) (get_or_append_left b more 0 at (omega arith)) ∙ ap (λ (x : ℕ). get_or b at 0 * 256 + x) (get_or_append_left b more 0 (at + 1) (omega arith))
 
--- a range that is there is the same with more behind it
+-- a range that is there is the same with more after it
 range-append : (b more : List ℕ) (n : ℕ) → 4 ≤ length b → 2 + n ≤ length b → slice_range (b ++ more) 4 (2 + n) ≡ slice_range b 4 (2 + n)
 range-append b more n four whole =
     ap (λ (l : List ℕ). take (2 + n - 4) l) (drop-append-le 4 b more four)
     ∙ take-append-le (2 + n - 4) (drop 4 b) more (omega (arith, length-drop 4 b))
 
--- the content of a segment that is there is the same with more behind it
+-- the content of a segment that is there is the same with more after it
 content-append : (b more : List ℕ) → 4 ≤ length b → 2 + two_at b 2 ≤ length b → (segment_at (b ++ more)).content ≡ (segment_at b).content
 content-append b more four whole = ap (λ (n : ℕ). slice_range (b ++ more) 4 (2 + n)) (two_at-append 2 b more four) ∙ range-append b more (two_at b 2) four whole
 
--- a refusal stands where it stood
+-- a refusal stays at its offset
 place_keeps : (b d : List ℕ) (before : List Segment) (why : HeadRefusal) → why ≢ Cut → place_of b before why ≡ place_of d before why
 place_keeps b d before Cut other = absurd (other refl)
 place_keeps b d before why other = refl
@@ -180,7 +180,7 @@ next_keeps b d before rest tail why cut other e = first_stands
     (segment_keeps b d before (two_at rest 0) (two_at rest 2) (length rest) (two_at (rest ++ tail) 0) (two_at (rest ++ tail) 2) (length (rest ++ tail)) (segment_at rest).content (segment_at (rest ++ tail)).content cut (omega (arith, length-append rest tail)) (λ two. two_at-append 0 rest tail two) (λ four. two_at-append 2 rest tail four) (λ four whole. content-append rest tail four whole))
     e
 
--- and one behind SOT,
+-- and one after SOT,
 behind_keeps : (b d rest tail : List ℕ) (why : HeadRefusal) → wanting b ≡ Cut → why ≢ Cut → refusal_behind b rest ≡ Some why → refusal_behind d (rest ++ tail) ≡ Some why
 behind_keeps b d rest tail why cut other e = first_stands
     (skipped_tests b (two_at rest 0) (two_at rest 2) (length rest))
@@ -211,12 +211,12 @@ next_same : (b more : List ℕ) (before : List Segment) (rest : List ℕ) → 81
 unfolding segment_tests
 next_same b more before rest long = rw (more_long b more long, le-ltb (length b) 8192 long) refl
 
--- and those behind it
+-- and those after it
 behind_same : (b more rest : List ℕ) → 8192 ≤ length b → refusal_behind (b ++ more) rest ≡ refusal_behind b rest
 unfolding skipped_tests
 behind_same b more rest long = rw (more_long b more long, le-ltb (length b) 8192 long) refl
 
--- so each of the three refusals stands
+-- each of the three refusals stays
 soc_keeps : (b more : List ℕ) → Keeps (soc_tests b) (soc_tests (b ++ more))
 soc_keeps b more = elim (cases_lt (length b) 2) [
   | inl short ↦ inl (short_wants b (omega arith), lt-ltb (length b) 2 short)
@@ -253,7 +253,7 @@ main_stands b more at why other r = elim (cases_lt (length b) 8192) [
   }
 ]
 
--- and that of what is behind it
+-- and that of what is after it
 tile_stands : (b more : List ℕ) (at : ℕ) (why : HeadRefusal) → why ≢ Cut → RefusesTile b at why → RefusesTile (b ++ more) at why
 tile_stands b more at why other r = elim (cases_lt (length b) 8192) [
   | inl short ↦ record {
@@ -282,7 +282,7 @@ tile_stands b more at why other r = elim (cases_lt (length b) 8192) [
   }
 ]
 
--- a refusal but for want of bytes stands
+-- a refusal stays unless it is for missing bytes
 pub refusal_stands : RefusalStands
 refusal_stands b more at why other (inl r) = inl (start_stands b more at why other r)
 refusal_stands b more at why other (inr (inl r)) = inr (inl (main_stands b more at why other r))

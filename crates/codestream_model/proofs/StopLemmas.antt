@@ -15,7 +15,7 @@ abbrev pub Stops : List Piece → List Bool → Option HeaderRefusal → Type 0
 Stops [] bits r = ⊥
 Stops (p ∷ ps) bits r = StopsIn p bits r ⊎ (IsSound p × ((more : List Bool) × (bits ≡ piece_bits p ++ more) × Stops ps more r))
 
--- bits that stop in pieces stop in the first of them, or behind them all
+-- bits that stop in pieces stop in the first of them, or after them all
 pub stops_split : (ps qs : List Piece) (bits : List Bool) (r : Option HeaderRefusal) → Stops (ps ++ qs) bits r
     → Stops ps bits r ⊎ (AllByRecursion IsSound ps × ((more : List Bool) × (bits ≡ bits_of ps ++ more) × Stops qs more r))
 stops_split [] qs bits r s = inr (tt, (bits, refl, s))
@@ -35,7 +35,7 @@ pub stop_not_got : {A : Type 0} (r : Option HeaderRefusal) (x : A) (rest : List 
 stop_not_got None x rest e = cc
 stop_not_got (Some why) x rest e = cc
 
--- What a reader makes of pieces: where all are sound it gets this value behind their bits, and where bits stop it stops.
+-- What a reader makes of pieces: where all are sound it gets this value after their bits, and where bits stop it stops.
 pub record Judged {A : Type 0} (read : List Bool → Read A) (Good : A → Type 0) (ps : List Piece) (x : A) : Type 0 where
   pub sound : AllByRecursion IsSound ps → Good x × ((more : List Bool) → read (bits_of ps ++ more) ≡ Got x more)
   pub stops : (bits : List Bool) (r : Option HeaderRefusal) → Stops ps bits r → read bits ≡ stop r

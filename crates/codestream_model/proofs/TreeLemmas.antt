@@ -1,4 +1,4 @@
--- Tag trees: what is known of a tree behind some leaves, and the next leaf that is read.
+-- Tag trees: what is known of a tree after some leaves, and the next leaf that is read.
 use Rattle.std.proofs.Common.{◌≡◌, ◌≢◌, ◌<◌, ◌≤◌, ◌⊎◌, ◌+◌, ◌/◌, ◌^◌, ◌==◌, ◌&&◌, ◌||◌, ℕ, suc, Bool, true, false, not, List, [], ◌∷◌, ◌++◌, Option, Some, None, refl, sym, ◌∙◌, ap, inl, inr, arith, if◌then◌else◌}
 use Rattle.std.specs.List.{AllByRecursion, list_any}
 use Rattle.std.proofs.lemmas.Bool.{and_parts}
@@ -55,7 +55,7 @@ shared_any level s t among e =
     ap (λ (a : ℕ). list_any (λ (x : Seat). (a == x.col / 2 ^ level) && (s.row / 2 ^ level == x.row / 2 ^ level)) among) p.0
     ∙ ap (λ (b : ℕ). list_any (λ (x : Seat). (t.col / 2 ^ level == x.col / 2 ^ level) && (b == x.row / 2 ^ level)) among) p.1
 
--- no two of these leaves stand at one place
+-- no two of these leaves are at one place
 abbrev pub AreDistinct : List Seat → Type 0
 AreDistinct [] = Unit {0}
 AreDistinct (s ∷ more) = AllByRecursion (λ t. ((t.col == s.col) && (t.row == s.row)) ≡ false) more × AreDistinct more
@@ -75,11 +75,11 @@ first_is level s (x ∷ xs) ys d = elim (either (shares level s x)) [
   | inr t ↦ rw t (first_is level s xs ys d.1)
 ]
 
--- what is known of a node behind these leaves, where this is the test under which one of them gives it
+-- what is known of a node after these leaves, where this is the test under which one of them gives it
 abbrev pub expected : (ℕ → Seat → Bool) → Labels → List Seat → ℕ → Seat → Option ℕ
 expected gives labels among level t = if list_any (shares level t) among && gives level t then Some (label labels level t) else None
 
--- what is known of a tree of this height behind some leaves, and of the next one down to above this level
+-- what is known of a tree of this height after some leaves, and of the next one down to above this level
 pub record KnowsTree (height : ℕ) (gives : ℕ → Seat → Bool) (labels : Labels) (among : List Seat) (s : Seat) (level : ℕ) (nodes : List Node) : Type 0 where
   pub upper : (l : ℕ) (t : Seat) → level ≤ l → l ≤ height → known_label l t nodes ≡ expected gives labels (among ++ s ∷ []) l t
   pub lower : (l : ℕ) (t : Seat) → l < level → l ≤ height → known_label l t nodes ≡ expected gives labels among l t
@@ -154,7 +154,7 @@ keep_node height gives labels among s level nodes same k old = record {
   lower = λ l t low high. k.lower l t (omega arith) high;
 }
 
--- what is known of a node behind one that is given
+-- what is known of a node after one that is given
 node_here : (labels : Labels) (level : ℕ) (s t : Seat) (nodes : List Node) → shares level t s ≡ true → known_label level t (node_of level s (label labels level s) ∷ nodes) ≡ Some (label labels level t)
 unfolding known_label
 node_here labels level s t nodes e = rw (same_number level, e, shared_label labels level t s e) refl

@@ -160,7 +160,7 @@ pub unknown_quantisation : head_of (slice_set small_header 73 0x43) ≡ refused_
 unfolding siz_tests cap_tests cod_tests tile_tests segment_tests skipped_tests sum_below read_tile read_main head_of
 unknown_quantisation = refl
 
--- behind SOT a length below 2
+-- after SOT a length below 2
 pub a_length_below_two_behind_sot : head_of (take 87 small_header ++ 0xFF ∷ 0x58 ∷ 0x00 ∷ 0x01 ∷ []) ≡ refused_at 87 Length
 unfolding siz_tests cap_tests cod_tests tile_tests segment_tests skipped_tests sum_below read_tile read_main head_of
 a_length_below_two_behind_sot = refl

@@ -1,4 +1,4 @@
--- Faults of inputs byte by byte: behind the small header of one precinct.
+-- Faults of inputs byte by byte: after the small header of one precinct.
 use Rattle.std.proofs.Common.{◌≡◌, ◌≤◌, ◌+◌, ◌^◌, ℕ, zero, suc, List, [], ◌∷◌, ◌++◌, length, subst, refl, sym, inl, inr, arith}
 use Rattle.std.specs.Prelude.{slice_set, Ok}
 use Rattle.codestream_model.specs.Values.{Head, Place}
@@ -65,7 +65,7 @@ order_is psot = refl
 pub one_order : (psot : ℕ) → IsPacketOrder (small_head psot) (precinct 0 ∷ [])
 one_order psot = let P : List Place → Type 0 = λ places. IsPacketOrder (small_head psot) places in subst P (order_is psot) (packet_order_is_computed (small_head psot) (one_step psot))
 
--- behind the header the packet should stand
+-- after the header the packet should be
 begun : (psot : ℕ) (head rest : List ℕ) → SpellsHead (small_head psot) head → BeginsCodestream (small_head psot) (precinct 0 ∷ []) (length head) rest (head ++ rest)
 begun psot head rest s = record { head = head; before = []; content = []; packets = []; is_head = s; order = one_order psot; are_packets = refl; place = omega arith; whole = refl }
 
@@ -84,7 +84,7 @@ empty psot = record {
   short = omega arith;
 }
 
--- behind it EOC should stand
+-- after it EOC should be
 pub packed : (psot : ℕ) (head rest : List ℕ) → SpellsHead (small_head psot) head → BeginsCodestream (small_head psot) [] (length head + 1) rest (head ++ 0 ∷ rest)
 packed psot head rest s = record { head = head; before = precinct 0 ∷ []; content = nothing ∷ []; packets = 0 ∷ []; is_head = s; order = one_order psot; are_packets = (0 ∷ [], [], empty psot, refl, refl); place = refl; whole = refl }
 
@@ -106,7 +106,7 @@ a_missing_eoc_is_cut =
     cut_in (small_header ++ 0 ∷ []) (omega arith) (omega arith)
     (90, inr (inr (small_head 0, [], packed 0 small_header [] small_header_spells, (inl refl, omega arith))))
 
--- half of EOC is cut behind it
+-- half of EOC is cut after it
 pub half_of_eoc_is_cut : Faults (small_header ++ 0 ∷ 0 ∷ []) 91 Cut
 half_of_eoc_is_cut =
     cut_in (small_header ++ 0 ∷ 0 ∷ []) (omega arith) (omega arith)
@@ -118,7 +118,7 @@ another_marker_is_a_fault =
     refused_in (small_header ++ 0 ∷ 0 ∷ 0 ∷ []) 90 NoEoc (omega arith) (omega arith)
     (small_head 0, 0 ∷ 0 ∷ [], packed 0 small_header (0 ∷ 0 ∷ []) small_header_spells, (inl refl, (0, 0, [], refl, λ e. omega (arith, e.0))))
 
--- with Psot 14, where 15 is right, no byte behind the packet is looked at
+-- with Psot 14, where 15 is right, no byte after the packet is looked at
 wrong_psot : IsPsotRight (small_head 14) 90 → ⊥
 wrong_psot (inl e) = omega arith
 wrong_psot (inr e) = omega arith

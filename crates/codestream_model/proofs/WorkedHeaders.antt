@@ -34,7 +34,7 @@ pub header_with_more_is_read : head_of header_with_more ≡ Ok (plain_head 0 1 1
 unfolding siz_tests cap_tests cod_tests tile_tests segment_tests skipped_tests sum_below read_tile read_main head_of
 header_with_more_is_read = refl
 
--- one with PLT behind SOT,
+-- one with PLT after SOT,
 pub packet_lengths_behind_sot : head_of (header (small_siz ∷ small_cap ∷ small_cod ∷ small_qcd ∷ small_sot ∷ packet_lengths ∷ [])) ≡ Ok (plain_head 0 1 1 15 75 95)
 unfolding siz_tests cap_tests cod_tests tile_tests segment_tests skipped_tests sum_below read_tile read_main head_of
 packet_lengths_behind_sot = refl
@@ -79,7 +79,7 @@ pub one_component_too_many : head_of (header (too_many_siz ∷ small_cap ∷ thr
 unfolding siz_tests cap_tests cod_tests tile_tests segment_tests skipped_tests sum_below read_tile read_main head_of
 one_component_too_many = refl
 
--- want of a byte is refused where the bytes end: with none,
+-- a missing byte is refused where the bytes end: with none,
 pub no_bytes : head_of [] ≡ refused_at 0 Cut
 unfolding siz_tests cap_tests cod_tests tile_tests segment_tests skipped_tests sum_below read_tile read_main head_of
 no_bytes = refl
@@ -194,7 +194,7 @@ pub no_cap_and_another_quantisation : head_of (slice_set (header (small_siz ∷ 
 unfolding siz_tests cap_tests cod_tests tile_tests segment_tests skipped_tests sum_below read_tile read_main head_of
 no_cap_and_another_quantisation = refl
 
--- which stands at SOT
+-- which is at SOT
 pub no_cap : head_of (header (small_siz ∷ small_cod ∷ small_qcd ∷ small_sot ∷ [])) ≡ refused_at 65 (Missing 0xFF50)
 unfolding siz_tests cap_tests cod_tests tile_tests segment_tests skipped_tests sum_below read_tile read_main head_of
 no_cap = refl
@@ -214,7 +214,7 @@ pub packet_lengths_before_sot : head_of (header (small_siz ∷ small_cap ∷ sma
 unfolding siz_tests cap_tests cod_tests tile_tests segment_tests skipped_tests sum_below read_tile read_main head_of
 packet_lengths_before_sot = refl
 
--- and TLM behind it are refused,
+-- and TLM after it are refused,
 pub tile_lengths_behind_sot : head_of (header (small_siz ∷ small_cap ∷ small_cod ∷ small_qcd ∷ small_sot ∷ tile_lengths ∷ [])) ≡ refused_at 87 (Marker 0xFF55)
 unfolding siz_tests cap_tests cod_tests tile_tests segment_tests skipped_tests sum_below read_tile read_main head_of
 tile_lengths_behind_sot = refl

@@ -59,7 +59,7 @@ pub a_stuffed_bit : header_of one_grid (239 ∷ 255 ∷ 0 ∷ 1 ∷ 0 ∷ []) �
 unfolding number_bits number_of carried_after sound_after bytes_of_bits halvings levels_from header_of read_label read_passes read_lblock read_number read_block known_label read_inclusion read_planes read_seats read_grids read_bits
 a_stuffed_bit = refl
 
--- a header ends behind FF
+-- a header ends after FF
 pub an_unfinished_header : header_of one_grid (239 ∷ 255 ∷ []) ≡ Need
 unfolding number_bits number_of carried_after sound_after bytes_of_bits halvings levels_from header_of read_label read_passes read_lblock read_number read_block known_label read_inclusion read_planes read_seats read_grids read_bits
 an_unfinished_header = refl

@@ -45,7 +45,7 @@ least_weaker p q (x ∷ xs) f = elim (either (p x)) [
   ]
 ]
 
--- below a leaf lies what stands there
+-- below a leaf lies what is there
 below_leaf : (s : Seat) (b : Block) → is_below s.band 0 (s.col / 2 ^ 0) (s.row / 2 ^ 0) b ≡ stands_at s b
 below_leaf s b = rw (div-one b.col, div-one s.col, div-one b.row, div-one s.row) refl
 
@@ -75,11 +75,11 @@ written_inclusion blocks g = record {
       subst P i.band (ap (λ (x : Bool). if x then 0 else 1) e);
 }
 
--- each of the code-blocks stands alone at its seat
+-- each of the code-blocks is alone at its position
 abbrev pub StandAlone : List Block → Type 0
 StandAlone blocks = AllByRecursion (λ (b : Block). filter (stands_at (seat_of b)) blocks ≡ b ∷ []) blocks
 
--- a leaf has the zero bit-planes of the one that stands there
+-- a leaf has the zero bit-planes of the one that is there
 planes_leaves : (blocks : List Block) (g : Grid) (xs : List Block) → AllByRecursion (λ (b : Block). filter (stands_at (seat_of b)) blocks ≡ b ∷ []) xs → AllByRecursion IsWithinLimits xs
     → AllByRecursion (λ (b : Block). b.band ≡ g.band → label (least_planes blocks g.band) 0 (seat_of b) ≡ b.planes) xs
 planes_leaves blocks g [] a l = tt
@@ -101,7 +101,7 @@ written_planes blocks g alone limits = record {
   leaves = planes_leaves blocks g blocks alone limits;
 }
 
--- two seats are one
+-- two positions are one
 abbrev pub same_seat : Seat → Seat → Bool
 same_seat s t = (t.band == s.band) && ((t.col == s.col) && (t.row == s.row))
 
@@ -113,7 +113,7 @@ abbrev pub AreApart : List Seat → Type 0
 AreApart [] = Unit {0}
 AreApart (s ∷ more) = AllByRecursion (IsApart s) more × AreApart more
 
--- distinct seats of a grid are apart
+-- distinct positions of a grid are apart
 distinct_apart : (xs : List Seat) → AreDistinct xs → AreApart xs
 distinct_apart [] d = tt
 distinct_apart (s ∷ xs) d = (
@@ -125,7 +125,7 @@ distinct_apart (s ∷ xs) d = (
   distinct_apart xs d.1,
 )
 
--- seats of different bands are apart
+-- positions of different bands are apart
 bands_apart : (s : Seat) (band : ℕ) (ys : List Seat) → s.band ≡ band → AllByRecursion (λ (t : Seat). t.band ≢ band) ys → AllByRecursion (IsApart s) ys
 bands_apart s band [] e a = tt
 bands_apart s band (t ∷ ys) e a =
@@ -137,7 +137,7 @@ apart-append : (band : ℕ) (xs ys : List Seat) → AreApart xs → AreApart ys 
 apart-append band [] ys a b c d = b
 apart-append band (s ∷ xs) ys a b c d = (all-append (IsApart s) xs ys a.0 (bands_apart s band ys c.0 d), apart-append band xs ys a.1 b c.1 d)
 
--- so the seats of grids are apart,
+-- so the positions of grids are apart,
 pub grids_apart : (gs : List Grid) → HaveOwnBands gs → AreApart (flat_map seats gs)
 grids_apart [] h = tt
 grids_apart (g ∷ gs) h = apart-append g.band (seats g) (flat_map seats gs) (distinct_apart (seats g) (seats_distinct g)) (grids_apart gs h.1) (band_of_seats g) (other_bands g gs h.0)
@@ -150,7 +150,7 @@ apart-filter test (s ∷ xs) a = elim (either (test s)) [
   | inr t ↦ rw t (apart-filter test xs a.1)
 ]
 
--- code-blocks whose seats are apart stand alone
+-- code-blocks whose positions are apart are alone
 no_others : (b : Block) (xs : List Block) → AllByRecursion (IsApart (seat_of b)) (map seat_of xs) → filter (stands_at (seat_of b)) xs ≡ []
 no_others b [] a = refl
 no_others b (x ∷ xs) a = rw a.0.0 (no_others b xs a.1)

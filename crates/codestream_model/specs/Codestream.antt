@@ -10,18 +10,19 @@ use Rattle.codestream_model.specs.PacketOrder.{IsPacketOrder}
 use Rattle.codestream_model.specs.HeaderPieces.{HeaderRefusal}
 use Rattle.codestream_model.specs.Packet.{Content, HasFewBlocks, block_count, RefusesPacketHeader, SpellsPacket, IsPacketTooLong, NeedsPacketBytes}
 
--- the bytes are the packets of these places that say this, one after another
+-- The bytes are the packets of these precincts, one after another, each of which says its content.
 abbrev pub SpellsPackets : Head → List Place → List Content → List ℕ → Type 0
 SpellsPackets h [] [] bytes = bytes ≡ []
 SpellsPackets h (p ∷ places) (x ∷ content) bytes =
     (front : List ℕ) × (back : List ℕ) × SpellsPacket h p x front × SpellsPackets h places content back × (bytes ≡ front ++ back)
 SpellsPackets h places content bytes = ⊥
 
--- Psot is 0, or the distance from SOT to EOC, which stands at this place of the codestream (T.800 A.4.2)
+-- Psot is 0, or the distance from SOT to EOC, which is at this offset of the codestream (T.800 A.4.2).
 abbrev pub IsPsotRight : Head → ℕ → Type 0
 IsPsotRight h eoc = (h.psot ≡ 0) ⊎ (h.psot ≡ eoc - h.sot)
 
--- the bytes are a main header, in the packet order a packet of each precinct, and EOC; `content` has what each packet says
+-- The bytes are a main header, in the packet order a packet of each precinct, and EOC; `content` has what each packet
+-- says.
 pub record SpellsCodestream (h : Head) (content : List Content) (bytes : List ℕ) : Type 0 where
   pub head : List ℕ
   pub places : List Place
@@ -32,15 +33,15 @@ pub record SpellsCodestream (h : Head) (content : List Content) (bytes : List �
   pub psot : IsPsotRight h (length head + length packets)
   pub whole : bytes ≡ head ++ (packets ++ 255 ∷ 217 ∷ [])
 
--- an accepted codestream
+-- The bytes are an accepted codestream.
 abbrev pub IsCodestream : List ℕ → Type 0
 IsCodestream bytes = (h : Head) × (content : List Content) × SpellsCodestream h content bytes
 
--- codestreams one after another
+-- Codestreams one after another.
 abbrev pub joined : List (List ℕ) → List ℕ
 joined codestreams = flat_map (λ bytes. bytes) codestreams
 
--- why an input of codestreams is refused
+-- The reasons for which an input of codestreams is refused.
 pub data WalkRefusal : Type 0 where
   HeadRefused : HeadRefusal → WalkRefusal
   Cut : WalkRefusal
@@ -53,7 +54,7 @@ pub data WalkRefusal : Type 0 where
   TooManyFrames : WalkRefusal
 
 -- The bytes begin with a main header and, in the packet order, the packets of some precincts. Those of the precincts
--- `later` are still to come, in `rest`, which stands at the place `at`.
+-- `later` are still to come, in `rest`, which begins at the offset `at`.
 pub record BeginsCodestream (h : Head) (later : List Place) (at : ℕ) (rest bytes : List ℕ) : Type 0 where
   pub head : List ℕ
   pub before : List Place
@@ -110,11 +111,11 @@ abbrev pub NeedsNextBytes : Head → List Place → ℕ → List ℕ → Type 0
 NeedsNextBytes h [] at rest = NeedsEocBytes h at rest
 NeedsNextBytes h (p ∷ later) at rest = NeedsPacketBytes h p rest
 
--- a packet should begin at this place of the bytes, and this holds of its header, its precinct and what stands there
+-- A packet should begin at this offset of the bytes, and this holds of its header, its precinct and what is there.
 abbrev pub HoldsAtPacket : List ℕ → ℕ → (Head → Place → List ℕ → Type 0) → Type 0
 HoldsAtPacket bytes at Holds = (h : Head) × (p : Place) × (later : List Place) × (rest : List ℕ) × BeginsCodestream h (p ∷ later) at rest bytes × Holds h p rest
 
--- EOC should stand at this place of the bytes, and this holds of the main header and what stands there
+-- EOC should be at this offset of the bytes, and this holds of the main header and what is there.
 abbrev pub HoldsAtEoc : List ℕ → ℕ → (Head → List ℕ → Type 0) → Type 0
 HoldsAtEoc bytes at Holds = (h : Head) × (rest : List ℕ) × BeginsCodestream h [] at rest bytes × Holds h rest
 
@@ -131,14 +132,14 @@ RefusesCodestream bytes at Cut = ⊥
 RefusesCodestream bytes at InputTooLong = ⊥
 RefusesCodestream bytes at TooManyFrames = ⊥
 
--- the bytes end inside a codestream: in its main header, in a packet, or in EOC
+-- The bytes end inside a codestream: in its main header, in a packet, or in EOC.
 abbrev pub NeedsCodestreamBytes : List ℕ → Type 0
 NeedsCodestreamBytes bytes =
     (at : ℕ) × (RefusesHead bytes at HeadCut
     ⊎ (HoldsAtPacket bytes at (λ h p rest. NeedsPacketBytes h p rest)
     ⊎ HoldsAtEoc bytes at (λ h rest. NeedsEocBytes h at rest)))
 
--- the bytes that are read of an input, behind so many of it: none past 1,099,511,627,776
+-- The bytes that are read of an input after `done` bytes: none past 1,099,511,627,776.
 abbrev pub readable : ℕ → List ℕ → List ℕ
 readable done rest = take (2 ^ 40 - done) rest
 
@@ -146,8 +147,8 @@ readable done rest = take (2 ^ 40 - done) rest
 abbrev pub RefusesInside : ℕ → List ℕ → ℕ → WalkRefusal → Type 0
 RefusesInside done rest at why = (inside : ℕ) × RefusesCodestream (readable done rest) inside why × (at ≡ done + inside)
 
--- What is refused of the bytes behind whole codestreams that take so many bytes: an item that isn't as it should be, or one
--- that wants a byte behind the last that is read, which is the input's end or a place that an input may not reach.
+-- What is refused of the bytes after whole codestreams that take `done` bytes: an item that isn't as it should be, or
+-- one that needs a byte past the last that is read, which is the input's end or the greatest offset of an input.
 abbrev pub RefusesRest : ℕ → List ℕ → ℕ → WalkRefusal → Type 0
 RefusesRest done rest at Cut = NeedsCodestreamBytes rest × (done + length rest ≤ 2 ^ 40) × (at ≡ done + length rest)
 RefusesRest done rest at InputTooLong = NeedsCodestreamBytes (readable done rest) × (2 ^ 40 < done + length rest) × (at ≡ 2 ^ 40)
@@ -159,7 +160,7 @@ RefusesRest done rest at Psot = RefusesInside done rest at Psot
 RefusesRest done rest at NoEoc = RefusesInside done rest at NoEoc
 RefusesRest done rest at TooManyFrames = RefusesInside done rest at TooManyFrames
 
--- The first fault of an input: a byte behind 65,536 whole codestreams, or what is refused behind fewer.
+-- The first fault of an input: a byte after 65,536 whole codestreams, or what is refused after fewer.
 pub record Faults (input : List ℕ) (at : ℕ) (why : WalkRefusal) : Type 0 where
   pub codestreams : List (List ℕ)
   pub rest : List ℕ
@@ -171,7 +172,7 @@ pub record Faults (input : List ℕ) (at : ℕ) (why : WalkRefusal) : Type 0 whe
       ((length codestreams ≡ 65536) × (why ≡ TooManyFrames) × (at ≡ length (joined codestreams)))
       ⊎ ((length codestreams < 65536) × RefusesRest (length (joined codestreams)) rest at why)
 
--- an input that is read to its end: whole codestreams, and not too many
+-- The input is read to its end: it is whole codestreams, and not too many.
 pub record IsInput (input : List ℕ) (codestreams : List (List ℕ)) : Type 0 where
   pub whole : input ≡ joined codestreams
   pub each : AllByRecursion IsCodestream codestreams

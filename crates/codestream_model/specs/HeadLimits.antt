@@ -6,20 +6,21 @@ use Rattle.codestream_model.specs.Areas.{ceil_div}
 use Rattle.codestream_model.specs.Precincts.{IsPrecinct}
 use Rattle.codestream_model.specs.PacketOrder.{pid}
 
--- a step of 1 to 255 in x and in y
+-- A step is 1 to 255 in x and in y.
 pub record IsStep (step : Pair) : Type 0 where
   pub some_x : 0 < step.x
   pub some_y : 0 < step.y
   pub few_x : step.x < 256
   pub few_y : step.y < 256
 
--- a component with this step isn't empty
+-- A component with this step isn't empty.
 pub record HasSamples (h : Head) (step : Pair) : Type 0 where
   pub wide : ceil_div h.x0 step.x < ceil_div h.x1 step.x
   pub high : ceil_div h.y0 step.y < ceil_div h.y1 step.y
 
--- one to sixteen components, an image within 2^31 - 1, at most 15 levels, code-blocks of 4 to 1024 by 4 to 1024 and of at most
--- 4096 samples, precincts of at most 2^15 samples each way, RPCL or PCRL order, and PIDs below 2^20
+-- A header within the limits has one to sixteen components, an image within 2^31 - 1, at most 15 levels, code-blocks of
+-- 4 to 1024 by 4 to 1024 and of at most 4096 samples, precincts of at most 2^15 samples each way, RPCL or PCRL order,
+-- and PIDs below 2^20.
 pub record IsWithinLimits (h : Head) : Type 0 where
   pub some_component : 1 ≤ length h.steps
   pub few_components : length h.steps ≤ 16

@@ -1,8 +1,9 @@
 -- Why a main header is refused, and the order in which conditions are judged.
 use Rattle.std.specs.Prelude.{ℕ, Bool, List, [], ◌∷◌, Option, Some, None, if◌then◌else◌}
 
--- The reasons. `Cut` and `TooLong` say that a byte is wanted past the bytes given, or past 8,192; `Marker`, `Twice` and
--- `Missing` name the marker that may not stand there, that stood before, or that did not stand.
+-- The reasons for which a main header is refused. `Cut` and `TooLong` say that it needs a byte past the bytes given, or
+-- past 8,192; `Marker`, `Twice` and `Missing` name the marker that is not allowed there, that was there before, or that
+-- was not there.
 pub data HeadRefusal : Type 0 where
   Cut : HeadRefusal
   NoSoc : HeadRefusal
@@ -29,16 +30,16 @@ pub data HeadRefusal : Type 0 where
   Ids : HeadRefusal
   TooLong : HeadRefusal
 
--- a condition, and why a header that meets it is refused
+-- A test is a condition, and why a header that meets it is refused.
 pub record Test : Type 0 where
   pub why : HeadRefusal
   pub fails : Bool
 
--- the condition that refuses so
+-- `refuses why failed` is the test that gives this refusal.
 abbrev pub refuses : HeadRefusal → Bool → Test
 refuses why fails = record { why = why; fails = fails }
 
--- the first refusal of tests in order, if one fails
+-- The first refusal of tests, in order, if one fails.
 abbrev pub first_refusal : List Test → Option HeadRefusal
 first_refusal [] = None
 first_refusal (t ∷ tests) = if t.fails then Some t.why else first_refusal tests

@@ -5,7 +5,7 @@ use Rattle.codestream_model.specs.Values.{Grid, Block}
 use Rattle.codestream_model.specs.StuffedBits.{number_bits}
 use Rattle.codestream_model.specs.TagTrees.{Seat, Labels, Step, seats, seat_of, inclusion_bits, value_steps}
 
--- why a packet header, or what follows it, is refused
+-- The reasons for which a packet header, or what follows it, is refused.
 pub data HeaderRefusal : Type 0 where
   Stuffed : HeaderRefusal
   ZeroPlanes : HeaderRefusal
@@ -27,7 +27,8 @@ pub data Piece : Type 0 where
   CleanupPiece : ℕ → ℕ → Piece
   RefinePiece : ℕ → ℕ → Piece
 
--- the codes of the numbers of coding passes, of 6 and more the part that they have in common (T.800 B.10.6, table B.4)
+-- The codes of the numbers of coding passes; of 6 and more, the part that they have in common (T.800 B.10.6, table
+-- B.4).
 abbrev pub passes_code : ℕ → List Bool
 passes_code n =
     if n == 1 then false ∷ []
@@ -37,7 +38,7 @@ passes_code n =
     else if n == 5 then true ∷ true ∷ true ∷ false ∷ []
     else true ∷ true ∷ true ∷ true ∷ []
 
--- so many bits of one kind, and a last one of the other
+-- `run_of bit n last` is n bits of one kind, and a last one of the other.
 abbrev pub run_of : Bool → ℕ → Bool → List Bool
 run_of b n last = replicate n b ++ last ∷ []
 
@@ -51,8 +52,8 @@ piece_bits (LblockPiece n) = run_of true (n - 3) false
 piece_bits (CleanupPiece width n) = number_bits width n
 piece_bits (RefinePiece width n) = number_bits width n
 
--- why a piece is refused, where it is: more than 74 zero bit-planes, more than 3 passes, an Lblock above 24, a cleanup
--- segment of fewer than 2 or of 65,535 or more bytes, or a refinement segment of 2,047 or more
+-- The reason for which a piece is refused, if it is: more than 74 zero bit-planes, more than 3 passes, an Lblock above
+-- 24, a cleanup segment of fewer than 2 or of 65,535 or more bytes, or a refinement segment of 2,047 or more.
 abbrev pub fault_of : Piece → Option HeaderRefusal
 fault_of (InclusionPiece b) = None
 fault_of (PlanesPiece s) = if nat_le s.to 74 then None else Some ZeroPlanes
@@ -61,7 +62,7 @@ fault_of (LblockPiece n) = if nat_le n 24 then None else Some LengthBits
 fault_of (CleanupPiece width n) = if nat_lt n 2 then Some CleanupShort else if nat_le 65535 n then Some CleanupLong else None
 fault_of (RefinePiece width n) = if nat_le 2047 n then Some RefineLong else None
 
--- a piece that isn't refused
+-- The piece isn't refused.
 abbrev pub IsSound : Piece → Type 0
 IsSound p = fault_of p ≡ None
 
@@ -75,7 +76,7 @@ deciding_bits (PassesPiece n) = piece_bits (PassesPiece n)
 deciding_bits (CleanupPiece width n) = piece_bits (CleanupPiece width n)
 deciding_bits (RefinePiece width n) = piece_bits (RefinePiece width n)
 
--- the bits of pieces, one after another
+-- The bits of pieces, one after another.
 abbrev pub bits_of : List Piece → List Bool
 bits_of pieces = flat_map piece_bits pieces
 
@@ -86,11 +87,11 @@ pub record Choices : Type 0 where
   pub planes : ℕ → Labels
   pub lblock : Seat → ℕ
 
--- the number of bits of a refinement length: Lblock with 2 passes, one more with 3
+-- The number of bits of a refinement length: Lblock with 2 passes, one more with 3.
 abbrev pub refine_width : ℕ → ℕ → ℕ
 refine_width passes lblock = if passes == 2 then lblock else lblock + 1
 
--- the pieces of an included code-block
+-- The pieces of an included code-block.
 abbrev pub block_pieces : Grid → Choices → List Block → Block → List Piece
 block_pieces g choices blocks b =
     map PlanesPiece (value_steps g (choices.planes g.band) (map seat_of (filter (λ x. x.band == g.band) blocks)) (seat_of b))
@@ -99,16 +100,16 @@ block_pieces g choices blocks b =
     ∷ CleanupPiece (choices.lblock (seat_of b)) b.cleanup
     ∷ (if b.passes == 1 then [] else RefinePiece (refine_width b.passes (choices.lblock (seat_of b))) b.refine ∷ [])
 
--- a code-block stands at a seat
+-- The code-block is at this position.
 abbrev pub stands_at : Seat → Block → Bool
 stands_at s b = (b.band == s.band) && ((b.col == s.col) && (b.row == s.row))
 
--- the pieces of a seat: those of its inclusion, and those of the code-block if it is included
+-- The pieces of a position: those of its inclusion, and those of the code-block if it is included.
 abbrev pub seat_pieces : Grid → Choices → List Block → Seat → List Piece
 seat_pieces g choices blocks s =
     map InclusionPiece (inclusion_bits g (choices.inclusion g.band) s)
     ++ flat_map (block_pieces g choices blocks) (filter (stands_at s) blocks)
 
--- the pieces of a header behind its first bit: of each grid the seats in raster order
+-- The pieces of a header after its first bit: of each grid its positions in raster order.
 abbrev pub header_pieces : List Grid → Choices → List Block → List Piece
 header_pieces grids choices blocks = flat_map (λ g. flat_map (seat_pieces g choices blocks) (seats g)) grids

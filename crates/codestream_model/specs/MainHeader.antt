@@ -7,53 +7,53 @@ use Rattle.codestream_model.specs.Segments.{SOC, CAP, SIZ, COD, TLM, PRF, PLM, P
 use Rattle.codestream_model.specs.HeadRefusals.{Test, first_refusal}
 use Rattle.codestream_model.specs.SegmentTests.{siz_tests, cap_tests, cod_tests, head_values, tile_tests}
 
--- the markers of segments that may stand once
+-- The marker is one that a main header has at most once.
 abbrev pub stands_once : ℕ → Bool
 stands_once m = m == SIZ || m == CAP || m == COD || m == QCD
 
--- the markers of segments that may stand before SOT, those that are passed over among them
+-- The marker is allowed before SOT; those of skipped segments are among these.
 abbrev pub is_main_marker : ℕ → Bool
 is_main_marker m = stands_once m || m == QCC || m == TLM || m == PLM || m == CPF || m == PRF || m == CRG || m == COM
 
--- the markers of segments that may stand behind SOT, all of them passed over
+-- The marker is allowed after SOT; all of these segments are skipped.
 abbrev pub is_tile_marker : ℕ → Bool
 is_tile_marker m = m == PLT || m == COM
 
--- the least length that a segment states
+-- The least length that a segment states.
 abbrev pub least_length : ℕ → ℕ
 least_length m = if m == SIZ then 41 else if m == CAP then 6 else if m == COD then 12 else if m == QCD then 4 else 2
 
--- the conditions on the content of a segment before SOT
+-- The conditions on the content of a segment before SOT.
 abbrev pub content_tests : ℕ → List ℕ → List Test
 content_tests m c = if m == SIZ then siz_tests c else if m == CAP then cap_tests c else if m == COD then cod_tests c else []
 
--- no condition of these is met
+-- None of these conditions is met.
 abbrev pub Passes : List Test → Type 0
 Passes tests = first_refusal tests ≡ None
 
--- a sound segment before SOT
+-- The segment is a sound one before SOT.
 pub record IsMainSegment (s : Segment) : Type 0 where
   pub known : is_main_marker s.marker ≡ true
   pub fits : stated_length s.content < 2 ^ 16
   pub least : least_length s.marker ≤ stated_length s.content
   pub content : Passes (content_tests s.marker s.content)
 
--- the first of these segments, if there is one, is SIZ
+-- The first of these segments, if there is one, is SIZ.
 abbrev pub StartsWithSiz : List Segment → Type 0
 StartsWithSiz [] = Unit {0}
 StartsWithSiz (s ∷ more) = s.marker ≡ SIZ
 
--- how many segments with a marker there are
+-- The number of segments with a marker.
 abbrev pub count_of : ℕ → List Segment → ℕ
 count_of m segments = length (filter (λ s. s.marker == m) segments)
 
--- sound segments behind SOC: the first is SIZ, and SIZ, CAP, COD and QCD stand at most once each
+-- These are sound segments after SOC: the first is SIZ, and there is at most one each of SIZ, CAP, COD and QCD.
 pub record IsMainPart (main : List Segment) : Type 0 where
   pub starts : StartsWithSiz main
   pub once : (m : ℕ) → stands_once m ≡ true → count_of m main ≤ 1
   pub each : AllByRecursion IsMainSegment main
 
--- a sound SOT segment behind these, among which CAP, COD and QCD stand
+-- A sound SOT segment follows these segments, among which are CAP, COD and QCD.
 pub record IsTileStart (main : List Segment) (tile : Segment) : Type 0 where
   pub is_sot : tile.marker ≡ SOT
   pub ten : stated_length tile.content ≡ 10
@@ -62,7 +62,7 @@ pub record IsTileStart (main : List Segment) (tile : Segment) : Type 0 where
   pub has_qcd : stands QCD main ≡ true
   pub content : Passes (tile_tests main tile.content)
 
--- a segment that is passed over behind SOT
+-- The segment is one that is skipped after SOT.
 pub record IsTileSegment (s : Segment) : Type 0 where
   pub known : is_tile_marker s.marker ≡ true
   pub fits : stated_length s.content < 2 ^ 16

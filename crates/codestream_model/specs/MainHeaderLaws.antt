@@ -8,40 +8,40 @@ use Rattle.codestream_model.specs.MainHeader.{SpellsHead}
 use Rattle.codestream_model.specs.RefusedHeader.{RefusesHead}
 use Rattle.codestream_model.specs.MainHeaderReading.{head_of}
 
--- bytes that begin with a main header are read as that one, whatever follows it
+-- Bytes that begin with a main header are read as that one, whatever follows it.
 abbrev pub HeaderIsReadOneWay : Type 0
 HeaderIsReadOneWay = (h : Head) (front more : List ℕ) → SpellsHead h front → head_of (front ++ more) ≡ Ok h
 
--- a refusal is the one that is computed
+-- A refusal is the one that is computed.
 abbrev pub RefusalIsReadOneWay : Type 0
 RefusalIsReadOneWay = (b : List ℕ) (at : ℕ) (why : HeadRefusal) → RefusesHead b at why → head_of b ≡ Err (record { at = at; why = why })
 
--- bytes begin with the main header that is computed, or are refused so
+-- Bytes begin with the main header that is computed, or are refused for the computed reason.
 abbrev pub HeadersAreJudged : Type 0
 HeadersAreJudged = (b : List ℕ) → IsBytes b → MatchResult (head_of b)
     (λ h. SpellsHead h (take h.length b))
     (λ r. RefusesHead b r.at r.why)
 
--- so bytes begin with one main header at most,
+-- Bytes begin with at most one main header.
 abbrev pub HeaderIsOne : Type 0
 HeaderIsOne = (h g : Head) (front other more rest : List ℕ) → SpellsHead h front → SpellsHead g other → front ++ more ≡ other ++ rest → (h ≡ g) × (front ≡ other)
 
--- are refused in one way at most,
+-- Bytes are refused in at most one way.
 abbrev pub RefusalIsOne : Type 0
 RefusalIsOne = (b : List ℕ) (at place : ℕ) (why reason : HeadRefusal) → RefusesHead b at why → RefusesHead b place reason → (at ≡ place) × (why ≡ reason)
 
--- and not where they begin with one
+-- Bytes that begin with a main header are not refused.
 abbrev pub HeaderIsNotRefused : Type 0
 HeaderIsNotRefused = (h : Head) (front more : List ℕ) (at : ℕ) (why : HeadRefusal) → SpellsHead h front → RefusesHead (front ++ more) at why → ⊥
 
--- the values of a main header lie within the limits
+-- The values of a main header are within the limits.
 abbrev pub HeaderIsWithinLimits : Type 0
 HeaderIsWithinLimits = (h : Head) (b : List ℕ) → IsBytes b → SpellsHead h b → IsWithinLimits h
 
--- a header that is read stands when more bytes follow,
+-- A header that was read stays the same when more bytes follow.
 abbrev pub HeaderStands : Type 0
 HeaderStands = (b more : List ℕ) (h : Head) → IsBytes b → head_of b ≡ Ok h → head_of (b ++ more) ≡ Ok h
 
--- and so does a refusal, but for want of bytes
+-- A refusal stays the same when more bytes follow, unless it was for the end of the bytes.
 abbrev pub RefusalStands : Type 0
 RefusalStands = (b more : List ℕ) (at : ℕ) (why : HeadRefusal) → why ≢ Cut → RefusesHead b at why → RefusesHead (b ++ more) at why

@@ -7,20 +7,20 @@ use Rattle.codestream_model.specs.HeadRefusals.{HeadRefusal, first_refusal}
 use Rattle.codestream_model.specs.SegmentTests.{head_values}
 use Rattle.codestream_model.specs.RefusedHeader.{in_reach, wanting, place_of, soc_tests, refusal_next, refusal_behind}
 
--- where a header is refused, and why
+-- Where a header is refused, and why.
 pub record Refused : Type 0 where
   pub at : ℕ
   pub why : HeadRefusal
 
--- a refusal behind sound segments
+-- The refusal after these sound segments.
 abbrev pub refused : List ℕ → List Segment → HeadRefusal → Result Head Refused
 refused b before why = Err (record { at = place_of b before why; why = why })
 
--- the header of these segments, with SOD behind them
+-- The header of these segments, with SOD after them.
 abbrev pub whole_head : List Segment → Segment → List Segment → Result Head Refused
 whole_head main tile skipped = Ok (head_values main tile.content (2 + length (segments_bytes (main ++ tile ∷ skipped)) + 2))
 
--- what follows SOT is read, in at most so many segments
+-- `read_tile n ..` reads what follows SOT, in at most n segments.
 unfoldable pub read_tile : ℕ → List ℕ → List Segment → Segment → List Segment → List ℕ → Result Head Refused
 read_tile zero b main tile skipped rest = refused b (main ++ tile ∷ skipped) (wanting b)
 read_tile (suc n) b main tile skipped rest = elim (refusal_behind b rest) [
@@ -31,7 +31,7 @@ read_tile (suc n) b main tile skipped rest = elim (refusal_behind b rest) [
   ]
 ]
 
--- what follows SOC is read, in at most so many segments
+-- `read_main n ..` reads what follows SOC, in at most n segments.
 unfoldable pub read_main : ℕ → List ℕ → List Segment → List ℕ → Result Head Refused
 read_main zero b before rest = refused b before (wanting b)
 read_main (suc n) b before rest = elim (refusal_next b before rest) [
@@ -42,7 +42,7 @@ read_main (suc n) b before rest = elim (refusal_next b before rest) [
   ]
 ]
 
--- the header at the front of the bytes, or why there is none; there are fewer segments than bytes
+-- The header at the start of the bytes, or why there is none; there are fewer segments than bytes.
 unfoldable pub head_of : List ℕ → Result Head Refused
 head_of b = elim (first_refusal (soc_tests b)) [
   | Some why ↦ refused b [] why

@@ -3,7 +3,7 @@ use Rattle.std.specs.Prelude.{◌<◌, ◌≤◌, ◌+◌, ◌-◌, ◌*◌, ◌
 use Rattle.codestream_model.specs.Values.{Pair, Head, Place, Grid}
 use Rattle.codestream_model.specs.Areas.{ceil_div, Span, resolution_area, band_area}
 
--- PPx and PPy of a resolution
+-- PPx and PPy of a resolution.
 abbrev pub precinct_exponents : Head → ℕ → Pair
 precinct_exponents h r = slice_index_or h.precincts r (record { x = 15; y = 15 })
 
@@ -12,45 +12,45 @@ precinct_exponents h r = slice_index_or h.precincts r (record { x = 15; y = 15 }
 abbrev pub strips : ℕ → Span → ℕ
 strips e s = if s.to == s.from then 0 else ceil_div s.to (2 ^ e) - s.from / 2 ^ e
 
--- the columns of precincts of a resolution
+-- The number of columns of precincts of a resolution.
 abbrev pub precinct_columns : Head → ℕ → ℕ → ℕ
 precinct_columns h c r = strips (precinct_exponents h r).x (resolution_area h c r).x
 
--- and the rows
+-- The number of rows of precincts of a resolution.
 abbrev pub precinct_rows : Head → ℕ → ℕ → ℕ
 precinct_rows h c r = strips (precinct_exponents h r).y (resolution_area h c r).y
 
--- the number of its precincts
+-- The number of precincts of a resolution.
 abbrev pub precinct_count : Head → ℕ → ℕ → ℕ
 precinct_count h c r = precinct_columns h c r * precinct_rows h c r
 
--- a precinct of the image
+-- This is a precinct of the image.
 pub record IsPrecinct (h : Head) (p : Place) : Type 0 where
   pub component : p.c < length h.steps
   pub resolution : p.r ≤ h.levels
   pub number : p.k < precinct_count h p.c p.r
 
--- px: which strip of 2^PPx places, counted from 0, a precinct is of its resolution
+-- px is which strip of 2^PPx coordinates, counted from 0, a precinct is of its resolution.
 abbrev pub strip_x : Head → Place → ℕ
 strip_x h p = (resolution_area h p.c p.r).x.from / 2 ^ (precinct_exponents h p.r).x + p.k % precinct_columns h p.c p.r
 
--- py: which strip of 2^PPy places
+-- py is which strip of 2^PPy coordinates, counted from 0, a precinct is of its resolution.
 abbrev pub strip_y : Head → Place → ℕ
 strip_y h p = (resolution_area h p.c p.r).y.from / 2 ^ (precinct_exponents h p.r).y + p.k / precinct_columns h p.c p.r
 
--- the exponent of a precinct in a band of its resolution: a band above resolution 0 has half the places (B.7)
+-- The exponent of a precinct in a band of its resolution: a band above resolution 0 has half the coordinates (B.7).
 abbrev pub band_exponent : ℕ → ℕ → ℕ
 band_exponent r e = if r == 0 then e else e - 1
 
--- the part of a stretch that lies in a strip of 2^e places
+-- The part of a range that lies in a strip of 2^e coordinates.
 abbrev pub part : ℕ → ℕ → Span → Span
 part strip e s = record { from = max s.from (strip * 2 ^ e); to = min s.to ((strip + 1) * 2 ^ e) }
 
--- a precinct's part of a band, in x
+-- A precinct's part of a band, in x.
 abbrev pub part_x : Head → Place → ℕ → Span
 part_x h p band = part (strip_x h p) (band_exponent p.r (precinct_exponents h p.r).x) (band_area h p.c p.r band).x
 
--- and in y
+-- A precinct's part of a band, in y.
 abbrev pub part_y : Head → Place → ℕ → Span
 part_y h p band = part (strip_y h p) (band_exponent p.r (precinct_exponents h p.r).y) (band_area h p.c p.r band).y
 
@@ -69,6 +69,6 @@ grid h p band =
       rows = strips (min h.block.y (band_exponent p.r (precinct_exponents h p.r).y)) (part_y h p band);
     }
 
--- the code-blocks of a precinct, band after band: LL, or HL, LH and HH (B.9)
+-- The code-blocks of a precinct, band after band: LL, or HL, LH and HH (B.9).
 abbrev pub grids : Head → Place → List Grid
 grids h p = if p.r == 0 then grid h p 0 ∷ [] else grid h p 1 ∷ grid h p 2 ∷ grid h p 3 ∷ []

@@ -8,52 +8,52 @@ use Rattle.codestream_model.specs.Bytes.{two_at, four_at}
 use Rattle.codestream_model.specs.Segments.{SIZ, COD, QCD, Segment, stated_length, segments_bytes, content_of}
 use Rattle.codestream_model.specs.HeadRefusals.{Test, refuses, Length, Tiles, Components, Step, Area, Rsiz, Cap, Order, Layers, Levels, Blocks, Style, Precinct, Quant, Sop, TileHeader, Ids}
 
--- SIZ, image and tile size (A.5.1): Rsiz 16; Xsiz, Ysiz, XOsiz, YOsiz, XTsiz, YTsiz, XTOsiz, YTOsiz 32 each; Csiz 16;
--- and Ssiz, XRsiz and YRsiz of each component, 8 each
+-- Rsiz, the first value of SIZ (A.5.1). Image and tile size has, in bits: Rsiz 16; Xsiz, Ysiz, XOsiz, YOsiz, XTsiz,
+-- YTsiz, XTOsiz, YTOsiz 32 each; Csiz 16; and Ssiz, XRsiz and YRsiz of each component, 8 each.
 abbrev pub rsiz : List ℕ → ℕ
 rsiz c = two_at c 0
 
--- Xsiz, where the image ends in x
+-- Xsiz, where the image ends in x.
 abbrev pub xsiz : List ℕ → ℕ
 xsiz c = four_at c 2
 
--- Ysiz
+-- Ysiz, where the image ends in y.
 abbrev pub ysiz : List ℕ → ℕ
 ysiz c = four_at c 6
 
--- XOsiz, where it begins in x
+-- XOsiz, where the image begins in x.
 abbrev pub xosiz : List ℕ → ℕ
 xosiz c = four_at c 10
 
--- YOsiz
+-- YOsiz, where the image begins in y.
 abbrev pub yosiz : List ℕ → ℕ
 yosiz c = four_at c 14
 
--- XTsiz, the width of a tile
+-- XTsiz, the width of a tile.
 abbrev pub xtsiz : List ℕ → ℕ
 xtsiz c = four_at c 18
 
--- YTsiz
+-- YTsiz, the height of a tile.
 abbrev pub ytsiz : List ℕ → ℕ
 ytsiz c = four_at c 22
 
--- XTOsiz, where the first tile begins in x
+-- XTOsiz, where the first tile begins in x.
 abbrev pub xtosiz : List ℕ → ℕ
 xtosiz c = four_at c 26
 
--- YTOsiz
+-- YTOsiz, where the first tile begins in y.
 abbrev pub ytosiz : List ℕ → ℕ
 ytosiz c = four_at c 30
 
--- Csiz, the number of components
+-- Csiz, the number of components.
 abbrev pub csiz : List ℕ → ℕ
 csiz c = two_at c 34
 
--- XRsiz and YRsiz of each component
+-- XRsiz and YRsiz of each component.
 abbrev pub siz_steps : List ℕ → List Pair
 siz_steps c = map (λ i. record { x = slice_index c (37 + 3 * i); y = slice_index c (38 + 3 * i) }) (range_with_len 0 (csiz c))
 
--- a component with these steps has no place in the image area
+-- A component with these steps has no sample in the image area.
 abbrev pub is_empty : List ℕ → Pair → Bool
 is_empty c step = nat_le (ceil_div (xsiz c) step.x) (ceil_div (xosiz c) step.x) || nat_le (ceil_div (ysiz c) step.y) (ceil_div (yosiz c) step.y)
 
@@ -61,7 +61,8 @@ is_empty c step = nat_le (ceil_div (xsiz c) step.x) (ceil_div (xosiz c) step.x) 
 abbrev pub most_components : ℕ
 most_components = 16
 
--- one to sixteen components, high throughput, one tile over the whole image, and no empty component
+-- The conditions on SIZ: one to sixteen components, high throughput, one tile over the whole image, and no empty
+-- component.
 unfoldable pub siz_tests : List ℕ → List Test
 siz_tests c =
     refuses Components (csiz c == 0)
@@ -80,8 +81,8 @@ siz_tests c =
     ∷ refuses Area (list_any (is_empty c) (siz_steps c))
     ∷ []
 
--- CAP, extended capabilities (A.5.2 of later editions; T.814): Pcap 32, with the bit of part 15 alone; Ccap15 16, whose
--- upper three bits are 0, so that there are only HT code-blocks and one set in each
+-- The conditions on CAP, extended capabilities (A.5.2 of later editions; T.814): Pcap 32, with the bit of part 15
+-- alone; Ccap15 16, whose upper three bits are 0, so that there are only HT code-blocks and one set in each.
 unfoldable pub cap_tests : List ℕ → List Test
 cap_tests c =
     refuses Cap (not (four_at c 0 == 0x0002_0000))
@@ -94,48 +95,49 @@ cap_tests c =
 abbrev pub RPCL : ℕ
 RPCL = 2
 
--- position, component, resolution, layer
+-- The progression order position, component, resolution, layer.
 abbrev pub PCRL : ℕ
 PCRL = 3
 
--- COD, coding style default (A.6.1): Scod 8; progression order 8; layers 16; component transform 8; N_L 8; xcb - 2 and
--- ycb - 2, 8 each; code-block style 8; wavelet 8; and with bit 0 of Scod PPx and PPy of each resolution, 4 bits each, PPy first
+-- Scod, the first value of COD (A.6.1). Coding style default has, in bits: Scod 8; progression order 8; layers 16;
+-- component transform 8; N_L 8; xcb - 2 and ycb - 2, 8 each; code-block style 8; wavelet 8; and with bit 0 of Scod PPx
+-- and PPy of each resolution, 4 bits each, PPy first.
 abbrev pub scod : List ℕ → ℕ
 scod c = slice_index c 0
 
--- the progression order
+-- The progression order.
 abbrev pub cod_order : List ℕ → ℕ
 cod_order c = slice_index c 1
 
--- the number of layers
+-- The number of layers.
 abbrev pub cod_layers : List ℕ → ℕ
 cod_layers c = two_at c 2
 
--- N_L, the number of decomposition levels
+-- N_L, the number of decomposition levels.
 abbrev pub cod_levels : List ℕ → ℕ
 cod_levels c = slice_index c 5
 
--- xcb and ycb
+-- The exponents xcb and ycb of the code-block size.
 abbrev pub cod_block : List ℕ → Pair
 cod_block c = record { x = slice_index c 6 + 2; y = slice_index c 7 + 2 }
 
--- the code-block style
+-- The code-block style.
 abbrev pub cod_style : List ℕ → ℕ
 cod_style c = slice_index c 8
 
--- the precinct sizes are given
+-- The precinct sizes are given.
 abbrev pub has_sizes : List ℕ → Bool
 has_sizes c = scod c % 2 == 1
 
--- an EPH marker follows each packet header, that of an empty packet too
+-- An EPH marker follows each packet header, that of an empty packet too.
 abbrev pub has_eph : List ℕ → Bool
 has_eph c = scod c / 4 % 2 == 1
 
--- PPx and PPy of a resolution; without sizes both are 15
+-- PPx and PPy of a resolution; without sizes both are 15.
 abbrev pub cod_precinct : List ℕ → ℕ → Pair
 cod_precinct c r = if has_sizes c then record { x = slice_index c (10 + r) % 16; y = slice_index c (10 + r) / 16 } else record { x = 15; y = 15 }
 
--- and of each, from the lowest on
+-- PPx and PPy of each resolution, from the lowest on.
 abbrev pub cod_precincts : List ℕ → List Pair
 cod_precincts c = map (cod_precinct c) (range_with_len 0 (cod_levels c + 1))
 
@@ -156,31 +158,31 @@ cod_tests c =
     ∷ refuses Precinct (list_any (λ e. e.x == 0 || e.y == 0) (drop 1 (cod_precincts c)))
     ∷ []
 
--- QCD, quantisation default (A.6.4): Sqcd 8, whose low five bits are the style, and the step values
+-- The quantisation style: the low five bits of Sqcd, the first value of QCD (A.6.4), after which come the step values.
 abbrev pub quant_style : List ℕ → ℕ
 quant_style c = slice_index c 0 % 32
 
--- the length that QCD states with no quantisation, with derived steps and with given ones
+-- The length that QCD states with no quantisation, with derived steps and with given ones.
 abbrev pub quant_length : ℕ → ℕ → ℕ
 quant_length style levels = if style == 0 then 4 + 3 * levels else if style == 1 then 5 else 5 + 6 * levels
 
--- SOT, start of tile-part (A.4.2): Isot 16, Psot 32, TPsot 8, TNsot 8
+-- Isot, the first value of SOT (A.4.2). Start of tile-part has, in bits: Isot 16, Psot 32, TPsot 8, TNsot 8.
 abbrev pub isot : List ℕ → ℕ
 isot c = two_at c 0
 
--- Psot, the length of the tile-part
+-- Psot, the length of the tile-part.
 abbrev pub sot_psot : List ℕ → ℕ
 sot_psot c = four_at c 2
 
--- TPsot, the number of the tile-part
+-- TPsot, the number of the tile-part.
 abbrev pub tpsot : List ℕ → ℕ
 tpsot c = slice_index c 6
 
--- TNsot, the number of tile-parts, or 0
+-- TNsot, the number of tile-parts, or 0.
 abbrev pub tnsot : List ℕ → ℕ
 tnsot c = slice_index c 7
 
--- the values of a header with these segments before SOT, this content of SOT, and this length
+-- The values of a header with these segments before SOT, this content of SOT, and this length.
 abbrev pub head_values : List Segment → List ℕ → ℕ → Head
 head_values main tile n = record {
   x0 = xosiz (content_of SIZ main);
@@ -203,7 +205,7 @@ head_values main tile n = record {
 abbrev pub pids_end : Head → ℕ → ℕ
 pids_end h c = (precincts_below h c (h.levels + 1) - 1) * length h.steps + c + 1
 
--- a precinct would have a PID of 2^20 or more
+-- A precinct would have a PID of 2^20 or more.
 abbrev pub has_great_pid : Head → Bool
 has_great_pid h = list_any (λ c. nat_lt (2 ^ 20) (pids_end h c)) (range_with_len 0 (length h.steps))
 

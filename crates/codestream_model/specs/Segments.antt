@@ -3,101 +3,101 @@ use Rattle.std.specs.Prelude.{◌+◌, ◌==◌, ℕ, Bool, List, [], ◌∷◌,
 use Rattle.std.specs.List.{flat_map, list_any}
 use Rattle.codestream_model.specs.Bytes.{two_bytes, two_at}
 
--- the markers (table A.2): start of codestream
+-- Start of codestream (table A.2, which has all these markers).
 abbrev pub SOC : ℕ
 SOC = 0xFF4F
 
--- extended capabilities
+-- Extended capabilities.
 abbrev pub CAP : ℕ
 CAP = 0xFF50
 
--- image and tile size
+-- Image and tile size.
 abbrev pub SIZ : ℕ
 SIZ = 0xFF51
 
--- coding style default
+-- Coding style default.
 abbrev pub COD : ℕ
 COD = 0xFF52
 
--- tile-part lengths
+-- Tile-part lengths.
 abbrev pub TLM : ℕ
 TLM = 0xFF55
 
--- profile
+-- Profile.
 abbrev pub PRF : ℕ
 PRF = 0xFF56
 
--- packet lengths, main header
+-- Packet lengths, main header.
 abbrev pub PLM : ℕ
 PLM = 0xFF57
 
--- packet lengths, tile-part header
+-- Packet lengths, tile-part header.
 abbrev pub PLT : ℕ
 PLT = 0xFF58
 
--- corresponding profile
+-- Corresponding profile.
 abbrev pub CPF : ℕ
 CPF = 0xFF59
 
--- quantisation default
+-- Quantisation default.
 abbrev pub QCD : ℕ
 QCD = 0xFF5C
 
--- quantisation component
+-- Quantisation component.
 abbrev pub QCC : ℕ
 QCC = 0xFF5D
 
--- component registration
+-- Component registration.
 abbrev pub CRG : ℕ
 CRG = 0xFF63
 
--- comment
+-- Comment.
 abbrev pub COM : ℕ
 COM = 0xFF64
 
--- start of tile-part
+-- Start of tile-part.
 abbrev pub SOT : ℕ
 SOT = 0xFF90
 
--- start of data
+-- Start of data.
 abbrev pub SOD : ℕ
 SOD = 0xFF93
 
--- a segment
+-- A segment: its marker and its content.
 pub record Segment : Type 0 where
   pub marker : ℕ
   pub content : List ℕ
 
--- the length that a segment with this content states
+-- The length that a segment with this content states.
 abbrev pub stated_length : List ℕ → ℕ
 stated_length content = length content + 2
 
--- a segment in bytes
+-- A segment in bytes.
 abbrev pub segment_bytes : Segment → List ℕ
 segment_bytes s = two_bytes s.marker ++ (two_bytes (stated_length s.content) ++ s.content)
 
--- segments one after another
+-- Segments in bytes, one after another.
 abbrev pub segments_bytes : List Segment → List ℕ
 segments_bytes segments = flat_map segment_bytes segments
 
--- a segment with this marker is among these
+-- A segment with this marker is among these.
 abbrev pub stands : ℕ → List Segment → Bool
 stands m segments = list_any (λ s. s.marker == m) segments
 
--- the content of the first one, and none where there is none
+-- The content of the first segment with this marker, and none where there is none.
 abbrev pub content_of : ℕ → List Segment → List ℕ
 content_of m [] = []
 content_of m (s ∷ more) = if s.marker == m then s.content else content_of m more
 
--- the offset of the first one, where the segments stand behind the two bytes of SOC
+-- The offset of the first segment with this marker, where the segments follow the two bytes of SOC.
 abbrev pub offset_of : ℕ → List Segment → ℕ
 offset_of m [] = 2
 offset_of m (s ∷ more) = if s.marker == m then 2 else length (segment_bytes s) + offset_of m more
 
--- the segment at the front of bytes
+-- The segment at the start of bytes.
 abbrev pub segment_at : List ℕ → Segment
 segment_at b = record { marker = two_at b 0; content = slice_range b 4 (2 + two_at b 2) }
 
--- the bytes behind it
+-- The bytes after the segment at the start of bytes.
 abbrev pub behind_segment : List ℕ → List ℕ
 behind_segment b = drop (2 + two_at b 2) b

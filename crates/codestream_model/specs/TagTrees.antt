@@ -9,13 +9,13 @@ pub record Seat : Type 0 where
   pub col : ℕ
   pub row : ℕ
 
--- A seat is one of a grid if it is of the grid's band, and within its columns and rows.
+-- A position is one of a grid if it is of the grid's band, and within its columns and rows.
 pub record IsSeat (g : Grid) (s : Seat) : Type 0 where
   pub band : s.band ≡ g.band
   pub col : s.col < g.cols
   pub row : s.row < g.rows
 
--- `seats g` is the seats of a grid in raster order.
+-- `seats g` is the positions of a grid in raster order.
 abbrev pub seats : Grid → List Seat
 seats g = flat_map (λ row. map (λ col. record { band = g.band; col = col; row = row }) (range_with_len 0 g.cols)) (range_with_len 0 g.rows)
 
@@ -53,7 +53,7 @@ NeverFalls g labels = (s : Seat) (level : ℕ) → IsSeat g s → level < root_l
 abbrev pub shares : ℕ → Seat → Seat → Bool
 shares level s t = (s.col / 2 ^ level == t.col / 2 ^ level) && (s.row / 2 ^ level == t.row / 2 ^ level)
 
--- A seat is the head of a list if the list begins with its column and row.
+-- A position is the head of a list if the list begins with its column and row.
 abbrev pub is_head : Seat → List Seat → Bool
 is_head s [] = false
 is_head s (t ∷ more) = (s.col == t.col) && (s.row == t.row)
@@ -86,7 +86,7 @@ pub record Step : Type 0 where
 abbrev pub value_steps : Grid → Labels → List Seat → Seat → List Step
 value_steps g labels among s = map (λ level. record { from = parent_label g labels level s; to = label labels level s }) (met_first g s among)
 
--- `seat_of b` is the seat of a code-block.
+-- `seat_of b` is the position of a code-block.
 abbrev pub seat_of : Block → Seat
 seat_of b = record { band = b.band; col = b.col; row = b.row }
 

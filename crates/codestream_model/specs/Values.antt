@@ -1,7 +1,7 @@
 -- The values that the definitions speak of: a main header's, a precinct, a grid of code-blocks, a code-block.
 use Rattle.std.specs.Prelude.{ℕ, Bool, List}
 
--- a number for each direction
+-- A number for each direction.
 pub record Pair : Type 0 where
   pub x : ℕ
   pub y : ℕ
@@ -25,19 +25,19 @@ pub record Head : Type 0 where
   pub sot : ℕ
   pub length : ℕ
 
--- a precinct: component c, resolution r, and k, which is row × columns + column
+-- A precinct: component c, resolution r, and k, which is row × columns + column.
 pub record Place : Type 0 where
   pub c : ℕ
   pub r : ℕ
   pub k : ℕ
 
--- the code-blocks of a precinct in one band: 0 LL, 1 HL, 2 LH, 3 HH
+-- The code-blocks of a precinct in one band: 0 LL, 1 HL, 2 LH, 3 HH.
 pub record Grid : Type 0 where
   pub band : ℕ
   pub cols : ℕ
   pub rows : ℕ
 
--- an included code-block: where it is, its zero bit-planes, its coding passes, and the bytes of its two segments
+-- An included code-block: where it is, its zero bit-planes, its coding passes, and the bytes of its two segments.
 pub record Block : Type 0 where
   pub band : ℕ
   pub col : ℕ

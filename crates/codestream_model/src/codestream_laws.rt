@@ -32,7 +32,7 @@ pub fn input_is_one()
     ensures { InputIsOne }
 {}
 
-/// An input has one fault at most, at one place, for one reason and behind the same codestreams.
+/// An input has one fault at most, at one place, for one reason and after the same codestreams.
 pub fn fault_is_one()
     ensures { FaultIsOne }
 {}

@@ -93,12 +93,12 @@ pub fn header_is_within_limits()
     ensures { HeaderIsWithinLimits }
 {}
 
-/// A main header that is read stands when more bytes follow.
+/// A main header that is read stays when more bytes follow.
 pub fn header_stands()
     ensures { HeaderStands }
 {}
 
-/// A refusal that is not want of bytes stands when more bytes follow.
+/// A refusal that is not for missing bytes stays when more bytes follow.
 pub fn refusal_stands()
     ensures { RefusalStands }
 {}

@@ -13,7 +13,7 @@ pub fn packed_bits_are_carried()
     ensures { PackedBitsAreCarried }
 {}
 
-/// Of two runs of bits that are packed in the same bytes one is the front of the other.
+/// Of two runs of bits that are packed in the same bytes one is a prefix of the other.
 pub fn packed_bits_agree()
     ensures { PackedBitsAgree }
 {}

@@ -103,7 +103,7 @@ seen done xs ys few =
     let e : 2 ^ 40 - done ≡ length xs + k = omega (arith, few) in
     (k, ap (λ (n : ℕ). take n (xs ++ ys)) e ∙ take-append-add xs ys k)
 
--- where all codestreams stand, only a codestream more is refused
+-- where there are as many codestreams as are allowed, only one more is refused
 full_refusal : (stage : Stage) (codestreams : ℕ) (front hand : List ℕ) (at : ℕ) (why : WalkRefusal) → codestreams ≡ 65536 → front ≡ [] → IsGiven stage front → RefusesIn stage codestreams hand at why → (at ≡ 0) × (why ≡ TooManyFrames) × (1 ≤ length hand)
 full_refusal AtStart codestreams front hand at why full none g (some, inl r) = (r.1, r.2, some)
 full_refusal AtStart codestreams front hand at why full none g (some, inr r) = absurd (omega (arith, full, r.0))

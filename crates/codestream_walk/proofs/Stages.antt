@@ -261,7 +261,7 @@ refuses_head stage codestreams offset at place bytes why e some few r other is =
     let P : Stage → Type 0 = λ t. RefusesIn t codestreams bytes at (HeadRefused why) in
     (at, subst P (sym e) (some, inr (few, (r, other))), is)
 
--- only want of bytes is want of bytes
+-- only missing bytes are missing bytes
 pub not_cut : (w : HeadWhy) → (w ≡ head_why.Cut → ⊥) → refusal_of w ≡ HeadCut → ⊥
 not_cut head_why.Cut n e = n refl
 not_cut head_why.NoSoc n e = absurd (cc)

@@ -2,10 +2,11 @@
 use Rattle.std.proofs.Common.{◌≡◌, ◌++◌, ℕ, true, false, List, [], ◌∷◌, refl, sym, ◌∙◌, ap, append_assoc}
 use Rattle.std.specs.List.{flat_map}
 use Rattle.std.proofs.lemmas.List.{append-nil}
-use Rattle.std.proofs.lemmas.List.Concat.{flat_map-append}
 use Rattle.wire_model.specs.Receptions.{Reception, Arrived, NotReady, Closed, Failed}
 use Rattle.relay_model.specs.Lines.{came}
-use Rattle.stream_model.specs.Report.{Precinct, Counts, precinct_line, block_lines, lines, end_line}
+use Rattle.stream_model.specs.Report.{Precinct, Counts, lines, end_line}
+use Rattle.stream_model.specs.Commands.{release_lines}
+use Rattle.stream_model.proofs.ReportWritten.{released_lines}
 use Rattle.stream_model.specs.Receiver.{Pick, received, flushed, counts_of}
 use Rattle.stream_model.specs.Stream.{carried}
 use Rattle.stream_model.specs.Reached.{due_at_end}
@@ -23,22 +24,18 @@ came-append (NotReady ∷ xs) ys = came-append xs ys
 came-append (Closed ∷ xs) ys = came-append xs ys
 came-append (Failed ∷ xs) ys = came-append xs ys
 
--- the lines of precincts and then of others
-lines-append : (xs ys : List Precinct) → lines (xs ++ ys) ≡ lines xs ++ lines ys
-lines-append xs ys = flat_map-append (λ x. precinct_line x ++ block_lines x.blocks x.bytes) xs ys
-
 -- before the end
-written : (pick : Pick) (max : ℕ) (receptions : List Reception) → recv_output pick max receptions false ≡ lines (received pick (came receptions)).precincts
-written pick max receptions = append-nil (lines (received pick (came receptions)).precincts)
+written : (pick : Pick) (max : ℕ) (receptions : List Reception) → recv_output pick max receptions false ≡ release_lines (received pick (came receptions)).releases
+written pick max receptions = append-nil (release_lines (received pick (came receptions)).releases)
 
 -- more comes
 more_written : (pick : Pick) (max : ℕ) (receptions more : List Reception) → (added : List ℕ) × (recv_output pick max (receptions ++ more) false ≡ recv_output pick max receptions false ++ added)
 more_written pick max receptions more =
     let g = given_grows pick (came receptions) (came more) in (
-      lines g.0,
+      release_lines g.0,
       written pick max (receptions ++ more)
-          ∙ (ap (λ (fs : List (List ℕ)). lines (received pick fs).precincts) (came-append receptions more)
-          ∙ (ap lines g.1 ∙ (lines-append (received pick (came receptions)).precincts g.0 ∙ ap (λ (l : List ℕ). l ++ lines g.0) (sym (written pick max receptions))))),
+          ∙ (ap (λ (fs : List (List ℕ)). release_lines (received pick fs).releases) (came-append receptions more)
+          ∙ (ap release_lines g.1 ∙ (released_lines (received pick (came receptions)).releases g.0 ∙ ap (λ (l : List ℕ). l ++ release_lines g.0) (sym (written pick max receptions))))),
     )
 
 -- the end
@@ -48,11 +45,11 @@ end_written pick max receptions =
     let end = end_line (counts_of (flushed r)) in
     let last = recv_line max receptions in
     let g = given_stays pick (came receptions) in (
-      lines g.0 ++ (end ++ last),
-      append_assoc (lines (flushed r).precincts) end last
-          ∙ (ap (λ (xs : List Precinct). lines xs ++ (end ++ last)) g.1
-          ∙ (ap (λ (l : List ℕ). l ++ (end ++ last)) (lines-append r.precincts g.0)
-          ∙ (append_assoc (lines r.precincts) (lines g.0) (end ++ last) ∙ ap (λ (l : List ℕ). l ++ (lines g.0 ++ (end ++ last))) (sym (written pick max receptions))))),
+      release_lines g.0 ++ (end ++ last),
+      append_assoc (release_lines (flushed r).releases) end last
+          ∙ (ap (λ xs. release_lines xs ++ (end ++ last)) g.1
+          ∙ (ap (λ (l : List ℕ). l ++ (end ++ last)) (released_lines r.releases g.0)
+          ∙ (append_assoc (release_lines r.releases) (release_lines g.0) (end ++ last) ∙ ap (λ (l : List ℕ). l ++ (release_lines g.0 ++ (end ++ last))) (sym (written pick max receptions))))),
     )
 
 pub recv_only_grows : RecvOnlyGrows

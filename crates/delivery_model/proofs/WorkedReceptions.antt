@@ -126,7 +126,7 @@ unfolding main_of_b first_body_of_b second_body_of_b third_body_of_b last_body_o
 cut_without_second_main = (refl, refl)
 
 -- and from the third datagram on the second codestream alone, with its stamp
-pub cut_from_the_third : (map (λ x. x.stamp) (flushed (received (any_of 16) (some_of_two (2 ∷ 3 ∷ 4 ∷ 5 ∷ 6 ∷ 7 ∷ 8 ∷ 9 ∷ [])))).precincts ≡ 3600 ∷ 3600 ∷ 3600 ∷ [])
+pub cut_from_the_third : (map (λ x. x.precinct.stamp) (flushed (received (any_of 16) (some_of_two (2 ∷ 3 ∷ 4 ∷ 5 ∷ 6 ∷ 7 ∷ 8 ∷ 9 ∷ [])))).releases ≡ 3600 ∷ 3600 ∷ 3600 ∷ [])
     × (counts_at_end 16 (some_of_two (2 ∷ 3 ∷ 4 ∷ 5 ∷ 6 ∷ 7 ∷ 8 ∷ 9 ∷ [])) ≡ counted 8 0 0 0 0 0)
 unfolding main_of_b first_body_of_b second_body_of_b third_body_of_b last_body_of_b codestream_of_b main_header main_header_of_three take_frames drained settle found_packet from_place number_bits number_of carried_after sound_after bytes_of_bits read_tile read_main head_of read_label read_passes read_lblock read_number read_block known_label read_inclusion read_planes read_seats read_grids read_bits header_of sum_below placed sorted siz_tests cap_tests cod_tests tile_tests halvings levels_from segment_tests skipped_tests
 cut_from_the_third = (refl, refl)

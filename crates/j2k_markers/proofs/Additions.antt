@@ -9,19 +9,19 @@ use Rattle.j2k_markers.specs.declared.segments.Before.{Before}
 use Rattle.j2k_markers.specs.Before.{place_of_qcd, IsKept}
 use Rattle.j2k_markers.proofs.Contents.{content_here, content_other, content_with, offset_none, offset_some, offset_here, stands_here, stands_other, length_with}
 
--- a segment that may stand once did not stand before
+-- a segment that is allowed once was not there before
 not_yet : (before : List Segment) (s : Segment) → (stands_once s.marker && stands s.marker before) ≡ false → (m : ℕ) → stands_once m ≡ true → (s.marker == m) ≡ true → stands m before ≡ false
 not_yet before s once m bound here =
     let same : s.marker ≡ m = eqb-true s.marker m here in
     let e : (stands_once m && stands m before) ≡ false = ap (λ (k : ℕ). stands_once k && stands k before) (sym same) ∙ once in
     elim (and_cases (stands_once m) (stands m before) e) [ inl free ↦ absurd (cc) | inr none ↦ none ]
 
--- the content that is kept of one that may stand once
+-- the content that is kept of one that is allowed once
 content_added : (m : ℕ) (x y : List ℕ) (before : List Segment) (s : Segment) → (stands_once s.marker && stands s.marker before) ≡ false → stands_once m ≡ true → x ≡ content_of m before → y ≡ (if s.marker == m then s.content else x) → y ≡ content_of m (before ++ s ∷ [])
 content_added m x y before s once bound kept e =
     e ∙ (ap (λ (z : List ℕ). if s.marker == m then s.content else z) kept ∙ sym (content_with m before s (not_yet before s once m bound)))
 
--- one that may stand once stands where its content is not empty
+-- one that is allowed once is there where its content is not empty
 stood_added : (before : List Segment) (s : Segment) → (stands_once s.marker && stands s.marker before) ≡ false → (stands_once s.marker ≡ true → 0 < length s.content) → ((m : ℕ) → stands_once m ≡ true → stands m before ≡ nat_lt 0 (length (content_of m before))) → (m : ℕ) → stands_once m ≡ true → stands m (before ++ s ∷ []) ≡ nat_lt 0 (length (content_of m (before ++ s ∷ [])))
 stood_added before s once some stood m bound = elim (cases_Bool (s.marker == m)) [
   | inl here ↦
@@ -31,7 +31,7 @@ stood_added before s once some stood m bound = elim (cases_Bool (s.marker == m))
   | inr other ↦ stands_other m before s other ∙ (stood m bound ∙ ap (λ (c : List ℕ). nat_lt 0 (length c)) (sym (content_other m before s other)))
 ]
 
--- something stands, and SIZ too
+-- there is a segment, and so is SIZ
 siz_added : (before : List Segment) (s : Segment) (x y : List ℕ) → (length before == 0 && not (s.marker == SIZ)) ≡ false → (stands_once s.marker ≡ true → 0 < length s.content) → (length before == 0) ≡ (length x == 0) → y ≡ (if s.marker == SIZ then s.content else x) → (length y == 0) ≡ false
 siz_added before s x y first some none e = elim (cases_Bool (s.marker == SIZ)) [
   | inl here ↦

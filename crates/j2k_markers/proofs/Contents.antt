@@ -1,4 +1,4 @@
--- What one segment more changes: which segments stand, their contents and their places.
+-- What one segment more changes: which segments there are, their contents and their places.
 use Rattle.std.proofs.Common.{◌≡◌, ◌+◌, ◌||◌, ℕ, Bool, true, false, List, [], ◌∷◌, ◌++◌, length, refl, sym, ◌∙◌, ap, inl, inr, arith}
 use Rattle.std.specs.Prelude.{◌==◌, if◌then◌else◌}
 use Rattle.std.proofs.lemmas.Bool.{cases_Bool, or_parts, or_left, or_right}
@@ -12,7 +12,7 @@ pub content_none : (m : ℕ) (xs : List Segment) → stands m xs ≡ false → c
 content_none m [] e = refl
 content_none m (x ∷ xs) e = let p = or_parts (x.marker == m) (stands m xs) e in rw p.0 (content_none m xs p.1)
 
--- and would stand behind all
+-- and would be after all
 pub offset_none : (m : ℕ) (xs : List Segment) → stands m xs ≡ false → offset_of m xs ≡ 2 + length (segments_bytes xs)
 offset_none m [] e = refl
 offset_none m (x ∷ xs) e =
@@ -40,7 +40,7 @@ pub content_here : (m : ℕ) (xs : List Segment) (s : Segment) → stands m xs �
 content_here m [] s e f = rw f refl
 content_here m (x ∷ xs) s e f = let p = or_parts (x.marker == m) (stands m xs) e in rw p.0 (content_here m xs s p.1 f)
 
--- and its place behind all others
+-- and its place after all others
 pub offset_here : (m : ℕ) (xs : List Segment) (s : Segment) → stands m xs ≡ false → (s.marker == m) ≡ true → offset_of m (xs ++ s ∷ []) ≡ 2 + length (segments_bytes xs)
 offset_here m [] s e f = rw f refl
 offset_here m (x ∷ xs) s e f =
@@ -55,7 +55,7 @@ content_other m (x ∷ xs) s f = elim (cases_Bool (x.marker == m)) [
   | inr not_here ↦ rw not_here (content_other m xs s f)
 ]
 
--- a segment stands where it stood or comes
+-- a segment is there where it was or comes
 pub stands_with : (m : ℕ) (xs : List Segment) (s : Segment) → stands m (xs ++ s ∷ []) ≡ (stands m xs || (s.marker == m || false))
 stands_with m xs s = list_any-append (λ (t : Segment). t.marker == m) xs (s ∷ [])
 

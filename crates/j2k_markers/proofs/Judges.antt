@@ -5,7 +5,7 @@ use Rattle.codestream_model.specs.HeadRefusals.{HeadRefusal, Test, first_refusal
 use Rattle.j2k_markers.specs.declared.head.HeadWhy.{HeadWhy}
 use Rattle.j2k_markers.specs.Refusals.{judged, why_of}
 
--- a refusal of one condition or of those behind it
+-- a refusal of one condition or of those after it
 pub test_then : (why : HeadRefusal) (fails : Bool) (x y : Option HeadRefusal) (w : HeadRefusal) → (x ≡ Some w → y ≡ Some w) → (if fails then Some why else x) ≡ Some w → (if fails then Some why else y) ≡ Some w
 test_then why true x y w f e = e
 test_then why false x y w f e = f e
@@ -15,7 +15,7 @@ pub first_of_both : (xs ys : List Test) (w : HeadRefusal) → first_refusal xs �
 first_of_both [] ys w e = absurd (cc)
 first_of_both (t ∷ xs) ys w e = test_then t.why t.fails (first_refusal xs) (first_refusal (xs ++ ys)) w (first_of_both xs ys w) e
 
--- none of one condition and none behind it
+-- none of one condition and none after it
 pub none_then : (why : HeadRefusal) (fails : Bool) (x y z : Option HeadRefusal) → (x ≡ None → y ≡ z) → (if fails then Some why else x) ≡ None → (if fails then Some why else y) ≡ z
 none_then why true x y z f e = absurd (cc)
 none_then why false x y z f e = f e

@@ -38,7 +38,7 @@ model_by : (b : List ℕ) (before : List Segment) (m n there : ℕ) (c : List �
 unfolding segment_tests
 model_by b before m n there c = refl
 
--- the content that is kept of a segment that may stand once
+-- the content that is kept of a segment that is allowed once
 content_is_kept : (w : Before) (before : List Segment) (m : ℕ) → IsKept w before → stands_once m ≡ true → content_kept w m ≡ content_of m before
 content_is_kept w before m k once = elim (cases_Bool (m == SIZ)) [
   | inl siz ↦ rw siz (k.siz ∙ ap (λ (n : ℕ). content_of n before) (sym (eqb-true m SIZ siz)))
@@ -54,7 +54,7 @@ content_is_kept w before m k once = elim (cases_Bool (m == SIZ)) [
   ]
 ]
 
--- whether one stands twice
+-- whether one is there twice
 twice_is_kept : (w : Before) (before : List Segment) (m : ℕ) → IsKept w before → (stands_once m && nat_lt 0 (length (content_kept w m))) ≡ (stands_once m && stands m before)
 twice_is_kept w before m k = elim (cases_Bool (stands_once m)) [
   | inr free ↦ rw free refl
@@ -70,7 +70,7 @@ contents_are_kept w before m c k =
     ∙ (ap (λ (x : List ℕ). sot_tests (content_of SIZ before) (content_of COD before) x c) k.qcd ∙ sym (tile_parts before c))) in
     ap (λ (tests : List Test). if m == SOT then tests else content_tests m c) tile
 
--- whether one that may stand once stands
+-- whether one that is allowed once is there
 stands_is_kept : (before : List Segment) (m : ℕ) (c : List ℕ) → c ≡ content_of m before → stands m before ≡ nat_lt 0 (length (content_of m before)) → nat_lt 0 (length c) ≡ stands m before
 stands_is_kept before m c e f = ap (λ (x : List ℕ). nat_lt 0 (length x)) e ∙ sym f
 

@@ -40,7 +40,7 @@ want_next : (b : List ℕ) (before : List Segment) (rest : List ℕ) → length 
 unfolding segment_tests
 want_next b before rest none = rw (lt-ltb (length rest) 2 (omega arith)) refl
 
--- behind SOT too
+-- after SOT too
 want_behind : (b : List ℕ) (rest : List ℕ) → length rest ≤ 0 → refusal_behind b rest ≡ Some (wanting b)
 unfolding skipped_tests
 want_behind b rest none = rw (lt-ltb (length rest) 2 (omega arith)) refl
@@ -50,7 +50,7 @@ main_spent : (b : List ℕ) (before : List Segment) (rest : List ℕ) → read_m
 unfolding read_main
 main_spent b before rest = refl
 
--- or behind it
+-- or after it
 tile_spent : (b : List ℕ) (main : List Segment) (tile : Segment) (skipped : List Segment) (rest : List ℕ) → read_tile 0 b main tile skipped rest ≡ refused b (main ++ tile ∷ skipped) (wanting b)
 unfolding read_tile
 tile_spent b main tile skipped rest = refl
@@ -60,7 +60,7 @@ pub main_refuses : (left : ℕ) (b : List ℕ) (before : List Segment) (rest : L
 main_refuses zero b before rest r room e = main_spent b before rest ∙ ap (λ (x : HeadRefusal). refused b before x) (one_refusal (refusal_next b before rest) (wanting b) r (want_next b before rest room) e)
 main_refuses (suc n) b before rest r room e = main_stops n b before rest r e
 
--- and one that is met behind it
+-- and one that is met after it
 pub tile_refuses : (left : ℕ) (b : List ℕ) (main : List Segment) (tile : Segment) (skipped : List Segment) (rest : List ℕ) (r : HeadRefusal) → length rest ≤ left → refusal_behind b rest ≡ Some r → read_tile left b main tile skipped rest ≡ refused b (main ++ tile ∷ skipped) r
 tile_refuses zero b main tile skipped rest r room e = tile_spent b main tile skipped rest ∙ ap (λ (x : HeadRefusal). refused b (main ++ tile ∷ skipped) x) (one_refusal (refusal_behind b rest) (wanting b) r (want_behind b rest room) e)
 tile_refuses (suc n) b main tile skipped rest r room e = tile_stops n b main tile skipped rest r e

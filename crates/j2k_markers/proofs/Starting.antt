@@ -1,4 +1,4 @@
--- The first two bytes, and what is read behind them.
+-- The first two bytes, and what is read after them.
 use Rattle.std.proofs.Common.{◌≡◌, ◌≢◌, ◌<◌, ◌≤◌, ◌+◌, ◌-◌, ℕ, min, List, [], length, take, drop, refl, sym, ◌∙◌, ap, inl, inr, arith}
 use Rattle.std.specs.Prelude.{None, Some, Err}
 use Rattle.std.proofs.lemmas.Bool.{cases_lt, lt-ltb, le-ltb, ltb-false, ne_eqb}
@@ -43,7 +43,7 @@ reach_is n b = elim (cases_lt (length b) n) [
       ap (λ (k : ℕ). take k b) all
 ]
 
--- the walk behind SOC begins
+-- the walk after SOC begins
 pub begins : (b : List ℕ) (w : Before) (rest : List ℕ) → first_refusal (soc_tests b) ≡ None → IsKept w [] → IsSoundBefore w → w.qcd_at ≤ 8192 → rest ≡ drop 2 (in_reach b) → ReadsMain b w rest
 begins b w rest e k sound qcd_at is =
     let size : length (drop 2 (in_reach b)) + 2 ≡ min 8192 (length b) = omega (arith, length-drop 2 (in_reach b), length-take 8192 b, two_bytes_there b e) in
@@ -60,6 +60,6 @@ begins b w rest e k sound qcd_at is =
       qcd_at = qcd_at;
     }
 
--- the bytes behind the first two
+-- the bytes after the first two
 pub behind_two : (xs : List ℕ) → take (length xs - 2) (drop 2 xs) ≡ drop 2 xs
 behind_two xs = take_all (length xs - 2) (drop 2 xs) (omega (arith, length-drop 2 xs))

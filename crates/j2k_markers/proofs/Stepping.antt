@@ -1,4 +1,4 @@
--- One step of the walk: what was read of all the bytes is read of those behind one segment more.
+-- One step of the walk: what was read of all the bytes is read of those after one segment more.
 use Rattle.std.proofs.Common.{◌≡◌, ◌<◌, ◌≤◌, ◌+◌, ◌-◌, ◌&&◌, ◌||◌, ℕ, zero, suc, min, Bool, true, false, not, List, [], ◌∷◌, ◌++◌, length, refl, sym, ◌∙◌, ap, inl, inr, subst, arith, append_assoc}
 use Rattle.std.specs.Prelude.{◌==◌, None, Ok, if◌then◌else◌}
 use Rattle.std.proofs.lemmas.Bool.{cases_Bool, eqb-true, eq-eqb, ltb-false, ne_eqb, and_left, or_parts, or_cases}
@@ -37,7 +37,7 @@ piece_is s rest f =
     let e : record { marker = s.marker; content = s.content.now } ≡ record { marker = two_at rest 0; content = (segment_at rest).content } = cc in
     e
 
--- a segment that may stand once states at least four
+-- a segment that is allowed once states at least four
 least_four : (m : ℕ) → stands_once m ≡ true → 4 ≤ least_length m
 least_four m once = elim (cases_Bool (m == SIZ)) [
   | inl siz ↦ rw siz (omega arith)
@@ -193,7 +193,7 @@ main_ends b w v rest s r none f a sot eight siz cod =
       qcd_at = left.qcd_at;
     }
 
--- no segment that may stand behind SOT may stand once
+-- no segment that is allowed after SOT is one that is allowed once
 tile_not_once : (m : ℕ) → is_tile_marker m ≡ true → stands_once m ≡ false
 tile_not_once m known = elim (or_cases (m == PLT) (m == COM) known) [
   | inl lengths ↦ ap stands_once (eqb-true m PLT lengths)
@@ -207,7 +207,7 @@ none_of_four m e =
     let q = or_parts (m == SIZ || m == CAP) (m == COD) p.0 in
     ((or_parts (m == SIZ) (m == CAP) q.0).0, q.1)
 
--- a segment behind SOT is kept too
+-- a segment after SOT is kept too
 behind_kept : (w v : Before) (before : List Segment) (rest : List ℕ) (s : Piece) → IsKept w before → 0 < length before → IsFront s rest → is_tile_marker s.marker ≡ true → Adds w v s → IsKept v (before ++ segment_at rest ∷ [])
 behind_kept w v before rest s k long f known a =
     let free : stands_once s.marker ≡ false = tile_not_once s.marker known in
@@ -218,7 +218,7 @@ behind_kept w v before rest s k long f known a =
     let P : Segment → Type 0 = λ t. IsKept v (before ++ t ∷ []) in
     subst P (piece_is s rest f) kept
 
--- the walk behind SOT goes on
+-- the walk after SOT goes on
 pub tile_goes : (b : List ℕ) (w v : Before) (tile : List ℕ) (sot : ℕ) (rest : List ℕ) (s : Piece) → ReadsTile b w tile sot rest → refusal_behind b rest ≡ None → IsFront s rest → is_tile_marker s.marker ≡ true → Adds w v s → ReadsTile b v tile sot (behind_segment rest)
 tile_goes b w v tile sot rest s r none f known a =
     let more = more_left r.left (omega (arith, r.room, f.whole)) in

@@ -49,11 +49,11 @@ no_length : (l : List ℕ) → length l ≡ 0 → l ≡ []
 no_length [] e = refl
 no_length (x ∷ l) e = absurd (omega arith)
 
--- two bytes behind the first two are one
+-- two bytes after the first two are one
 same_behind : (x y : List ℕ) → two_bytes SOC ++ x ≡ two_bytes SOC ++ y → x ≡ y
 same_behind x y e = ap (λ (l : List ℕ). drop 2 l) e
 
--- bytes with one SOT segment and SOD behind it, which begin with a header, are that header
+-- bytes with one SOT segment and SOD after it, which begin with a header, are that header
 pub whole : (b : List ℕ) (h : Head) (main : List Segment) (tile : Segment) → b ≡ two_bytes SOC ++ (segments_bytes main ++ (segment_bytes tile ++ two_bytes SOD)) → AllByRecursion IsNotSot main → tile.marker ≡ SOT → SpellsHead h (take h.length b) → SpellsHead h b
 whole b h main tile e others sot s =
     let n = h.length in

@@ -14,11 +14,11 @@ use Rattle.j2k_markers.specs.declared.segments.Turn.{Turn}
 use Rattle.j2k_markers.specs.declared.segments.Turn.TheVariants as turn
 use Rattle.j2k_markers.specs.Sound.{IsSoundSiz, IsSoundCod}
 
--- the content of a segment that may stand once
+-- the content of a segment that is allowed once
 abbrev pub content_kept : Before → ℕ → List ℕ
 content_kept w m = if m == SIZ then w.siz.now else if m == CAP then w.cap.now else if m == COD then w.cod.now else if m == QCD then w.qcd.now else []
 
--- the place of QCD, or of the next segment where it did not stand
+-- the place of QCD, or of the next segment where it was not there
 abbrev pub place_of_qcd : Before → ℕ
 place_of_qcd w = if nat_lt 0 (length w.qcd.now) then w.qcd_at else w.at
 
@@ -66,7 +66,7 @@ kept_tests b w rest =
     ∷ (length_tests (two_at rest 0) (two_at rest 2)
     ++ (refuses (wanting b) (nat_lt (length rest) (2 + two_at rest 2)) ∷ kept_content_tests w (two_at rest 0) (segment_at rest).content))))
 
--- SIZ and COD are sound where they stood
+-- SIZ and COD are sound where they are there
 pub record IsSoundBefore (w : Before) : Type 0 where
   pub siz : 0 < length w.siz.now → IsSoundSiz w.siz.now
   pub cod : 0 < length w.cod.now → IsSoundCod w.cod.now

@@ -6,7 +6,7 @@ use Rattle.j2k_markers.specs.declared.segments.Before.{Before}
 use Rattle.j2k_markers.specs.Before.{IsKept, IsSoundBefore}
 use Rattle.j2k_markers.specs.Sound.{IsSoundSiz, IsSoundCod}
 
--- up to SOT, behind these segments
+-- up to SOT, after these segments
 pub record ReadsMain (b : List ℕ) (w : Before) (rest : List ℕ) : Type 0 where
   pub before : List Segment
   pub left : ℕ
@@ -17,7 +17,7 @@ pub record ReadsMain (b : List ℕ) (w : Before) (rest : List ℕ) : Type 0 wher
   pub place : w.at + length rest ≡ min 8192 (length b)
   pub qcd_at : w.qcd_at ≤ 8192
 
--- behind SOT with this content at this place, and segments that are passed over
+-- after SOT with this content at this place, and segments that are passed over
 pub record ReadsTile (b : List ℕ) (w : Before) (tile : List ℕ) (sot : ℕ) (rest : List ℕ) : Type 0 where
   pub main : List Segment
   pub first : Segment

@@ -12,7 +12,7 @@ use crate::head::{HeadWhy, MOST_COMPONENTS};
 use crate::numbers::{number_16, number_32, rounded_up, stated_length};
 use arrayvec::ArrayVec;
 
-/// Where XRsiz of the first component stands; each component has three bytes.
+/// The offset of XRsiz of the first component; each component has three bytes.
 const FIRST_STEP: usize = 37;
 
 /// One more than the greatest Xsiz and Ysiz of the profile.

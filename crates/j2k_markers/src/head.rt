@@ -26,13 +26,13 @@ pub enum HeadWhy {
     NoSoc,
     /// The first segment isn't SIZ.
     NoSiz,
-    /// A marker that may not stand there.
+    /// A marker that is not allowed there.
     Marker(u16),
     /// A segment states a length that its marker doesn't have.
     Length,
-    /// SIZ, CAP, COD or QCD, the marker given, stands a second time.
+    /// SIZ, CAP, COD or QCD, the marker given, is there a second time.
     Twice(u16),
-    /// CAP, COD or QCD, the marker given, doesn't stand before SOT.
+    /// CAP, COD or QCD, the marker given, isn't there before SOT.
     Missing(u16),
     /// SIZ: the first tile isn't the whole image.
     Tiles,

@@ -25,7 +25,7 @@ fn strips(exponent: u8, from: u32, to: u32) -> u32
     rounded_up(to, size).saturating_sub(from / size)
 }
 
-/// A place of the reference grid in a component and a resolution of it, so many levels below the full one
+/// A place of the reference grid in a component and a resolution of it, a number of levels below the full one
 /// (T.800 B.2, B.5).
 fn placed(place: u32, step: u8, below: u8) -> u32
     requires step { 0 < step }

@@ -1,4 +1,4 @@
-//! The markers that stand in a main header (T.800 table A.2).
+//! The markers that are in a main header (T.800 table A.2).
 
 /// Start of codestream.
 pub(crate) const SOC: u16 = 0xFF4F;

@@ -239,8 +239,8 @@ fn layout(alloc: Global, plan: &HeadPlan) -> Result<Vec<u8>, AllocError>
 ///
 /// # Errors
 ///
-/// `Head` exactly where the reader refuses that header, with the reader's reason; `NoMemory` for want of
-/// memory.
+/// `Head` exactly where the reader refuses that header, with the reader's reason; `NoMemory` where memory
+/// ran out.
 pub fn write_head(alloc: Global, plan: &HeadPlan) -> Result<Vec<u8>, PlanFault>
     requires block_x { 2 ≤ plan.now.block.0 }
     requires block_y { 2 ≤ plan.now.block.1 }

@@ -1,4 +1,4 @@
-//! One segment of a header, judged behind the segments that were read before it (T.800 A.1): a marker, a
+//! One segment of a header, judged after the segments that were read before it (T.800 A.1): a marker, a
 //! length that counts itself and the content, and the content.
 ghost use Rattle.std.specs.Prelude.{◌≡◌, ◌<◌, ◌≤◌, ◌+◌, ◌==◌, ℕ, [], length, if◌then◌else◌, IfOk, OnOk};
 ghost use Rattle.codestream_model.specs.Bytes.{two_at};
@@ -25,12 +25,12 @@ pub(crate) const REACH: usize = 8192;
 pub(crate) struct Before<'a> {
     /// Where the next segment starts.
     pub(crate) at: usize,
-    /// The content of SIZ; it is empty where SIZ did not stand, and so are the next three.
+    /// The content of SIZ; it is empty where SIZ was not there, and so are the next three.
     pub(crate) siz: &'a [u8],
     pub(crate) cap: &'a [u8],
     pub(crate) cod: &'a [u8],
     pub(crate) qcd: &'a [u8],
-    /// Where QCD starts, if it stood.
+    /// Where QCD starts, if it was there.
     pub(crate) qcd_at: usize,
 }
 
@@ -61,14 +61,14 @@ fn wanting(bytes: &[u8]) -> HeadWhy
     }
 }
 
-/// Whether a segment may stand once.
+/// Whether a segment is allowed once.
 fn stands_once(marker: u16) -> bool
     ensures { result ≡ stands_once marker }
 {
     marker == SIZ || marker == CAP || marker == COD || marker == QCD
 }
 
-/// Whether a segment may stand before SOT.
+/// Whether a segment is allowed before SOT.
 fn is_main_marker(marker: u16) -> bool
     ensures { result ≡ is_main_marker marker }
 {
@@ -82,7 +82,7 @@ fn is_main_marker(marker: u16) -> bool
         || marker == COM
 }
 
-/// Whether a segment may stand behind SOT.
+/// Whether a segment is allowed after SOT.
 fn is_tile_marker(marker: u16) -> bool
     ensures { result ≡ is_tile_marker marker }
 {
@@ -102,7 +102,7 @@ fn least_length(marker: u16) -> u16
     }
 }
 
-/// The content of SIZ, CAP, COD or QCD, which is empty where the segment did not stand.
+/// The content of SIZ, CAP, COD or QCD, which is empty where the segment was not there.
 fn content_kept<'a>(before: &Before<'a>, marker: u16) -> &'a [u8]
     ensures { result.now ≡ content_kept before.now marker }
 {
@@ -240,7 +240,7 @@ pub(crate) fn next_turn<'a>(bytes: &[u8], rest: &'a [u8]) -> Result<Turn<'a>, He
     Ok(Turn::Passed(Segment { marker, content }))
 }
 
-/// What is behind the segment at the front.
+/// What is after the segment at the front.
 pub(crate) fn rest_behind<'a>(rest: &'a [u8], segment: &Segment) -> &'a [u8]
     requires { IsFront segment.now rest.now }
     ensures behind { result.now ≡ behind_segment rest.now }

@@ -16,7 +16,7 @@ use crate::head::{HeadWhy, PCRL, RPCL};
 use crate::numbers::{number_16, number_32, stated_length};
 use arrayvec::ArrayVec;
 
-/// Where the precinct sizes stand.
+/// The offset of the precinct sizes.
 const FIRST_PRECINCT: usize = 10;
 
 /// Pcap with the bit of part 15 alone.

@@ -18,7 +18,7 @@ struct Change {
     put: &'static [u8],
 }
 
-/// The header with the change; bytes can be put in before the last byte, not behind it.
+/// The header with the change; bytes can be put in before the last byte, not after it.
 fn changed(alloc: Global, header: &[u8], change: &Change) -> Result<Vec<u8>, AllocError> {
     let mut bytes = Vec::new(alloc);
     for (at, byte) in header.iter().enumerate() {
@@ -186,7 +186,7 @@ fn a_faulty_tile_part_is_refused_behind_all_segments(rt: HostRuntime) -> Result<
             75,
             HeadWhy::TileHeader,
         ),
-        // a bad marker at 75 behind a bad COD
+        // a bad marker at 75 after a bad COD
         refused(
             59,
             76,

@@ -17,7 +17,7 @@ use crate::numbers::number_16;
 use crate::segments::{Before, REACH, Turn, fault, next_segment, next_turn, rest_behind};
 use crate::tiles::{fields_of, sot_psot};
 
-/// The head of a header that ends with the SOD behind what has been read.
+/// The head of a header that ends with the SOD after what has been read.
 fn whole_head(bytes: &[u8], before: &Before, tile: &[u8], sot: usize) -> Head
     requires siz { IsSoundSiz before.now.siz.now }
     requires cod { IsSoundCod before.now.cod.now }
@@ -31,7 +31,7 @@ fn whole_head(bytes: &[u8], before: &Before, tile: &[u8], sot: usize) -> Head
     Head::new(fields, sot_psot(tile), sot as u32, before.at as u32 + 2)
 }
 
-/// The walk behind SOT, whose content and place are given.
+/// The walk after SOT, whose content and place are given.
 fn walk_tile<'a>(
     bytes: &[u8],
     start: Before<'a>,
@@ -56,7 +56,7 @@ fn walk_tile<'a>(
     }
 }
 
-/// The bytes behind SOC that are within reach.
+/// The bytes after SOC that are within reach.
 fn behind_soc(bytes: &[u8]) -> &[u8]
     requires { 2 ≤ length bytes.now }
     ensures { result.now ≡ drop 2 (in_reach bytes.now) }
@@ -65,7 +65,7 @@ fn behind_soc(bytes: &[u8]) -> &[u8]
     &reach[2..]
 }
 
-/// The walk behind SOC.
+/// The walk after SOC.
 fn walk_main(bytes: &[u8]) -> Result<Head, HeadFault>
     requires { first_refusal (soc_tests bytes.now) ≡ None }
     ensures { result ≡ read_as (head_of bytes.now) }
@@ -113,7 +113,7 @@ fn walk(bytes: &[u8]) -> Result<Head, HeadFault>
 /// # Errors
 ///
 /// The first condition that is met, in the order in which reading judges, and its place: see [`HeadWhy`].
-/// `Cut` and `TooLong` say that a byte is wanted behind the last one given, or behind the 8,192nd: the first
+/// `Cut` and `TooLong` say that a byte is wanted after the last one given, or after the 8,192nd: the first
 /// of them where fewer than 8,192 are given.
 pub fn read_head(bytes: &[u8]) -> Result<Head, HeadFault>
     ensures judged { result ≡ read_as (head_of bytes.now) }

@@ -5,18 +5,18 @@ use Rattle.std.proofs.lemmas.Bool.Decides.{leb_tells}
 use Rattle.std.proofs.lemmas.List.{append-nil}
 use Rattle.codestream_model.specs.StuffedBits.{number_of}
 use Rattle.codestream_model.specs.TagTrees.{Seat}
-use Rattle.codestream_model.specs.HeaderPieces.{HeaderRefusal, Passes as TooManyPasses, CleanupShort, CleanupLong, LengthBits, RefineLong, refine_width}
-use Rattle.codestream_model.specs.PacketHeaderReading.{Read, Got, AtEnd, Refused, and_then, unless, read_bit, read_number, read_passes, read_cleanup, read_lblock}
+use Rattle.codestream_model.specs.HeaderPieces.{Passes as TooManyPasses, CleanupShort, CleanupLong, LengthBits, RefineLong, refine_width}
+use Rattle.codestream_model.specs.PacketHeaderReading.{Read, Got, AtEnd, Refused, and_then, unless, read_bit, read_number, read_passes, read_lblock}
 use Rattle.stuffed_bits.specs.RunsRead.{run_bits}
-use Rattle.packet_header.specs.Moves.{StandsAt, all_of, behind, Gets, GetsRun, Moved, behind_answer}
-use Rattle.packet_header.specs.declared.source.Source.{Source}
-use Rattle.packet_header.specs.declared.refusal.Stop.{Stop}
-use Rattle.packet_header.specs.declared.refusal.Stop.TheVariants.{Need, Bad}
+use Rattle.packet_header.specs.Moves.{HasGiven, all_of, bits_after, Gets, GetsRun, Moved, behind_answer}
+use Rattle.stuffed_bits.specs.declared.source.Source.{Source}
+use Rattle.packet_header.specs.declared.refusal.HeaderStop.{HeaderStop}
+use Rattle.packet_header.specs.declared.refusal.HeaderStop.TheVariants.{Need, Bad}
 use Rattle.packet_header.specs.declared.refusal.HeaderWhy.TheVariants as why
 use Rattle.packet_header.specs.Steps.{block_rest, by_passes, by_cleanup, by_refine, position_of, refine_rest}
 use Rattle.packet_header.specs.declared.block.Block.{Block}
 use Rattle.codestream_model.specs.Values as values
-use Rattle.packet_header.specs.declared.step.Step.TheVariants.{Passes, MorePasses, LastPasses, Cleanup, Refine}
+use Rattle.packet_header.specs.declared.step.Step.TheVariants.{Passes, MorePasses, LastPasses, Cleanup}
 use Rattle.packet_header.proofs.Moving.{then_assoc}
 
 -- the number of passes, by its first bit,
@@ -110,16 +110,16 @@ lblock_of_many (suc n) least rest e =
     rw test (lblock_of_many n (suc least) rest (omega arith))
 
 -- an Lblock that was read, by its ones, or what stops it
-abbrev pub lblock_answer : Result ℕ Stop → Result ℕ Stop
+abbrev pub lblock_answer : Result ℕ HeaderStop → Result ℕ HeaderStop
 lblock_answer (Ok n) = if nat_le 22 n then Err (Bad why.LengthBits) else Ok (3 + n)
 lblock_answer (Err stopped) = Err stopped
 
-pub lblock_gets : (old new : Source) (got : Result ℕ Stop) → GetsRun true 22 old new got → Gets (read_lblock 3) old new (lblock_answer got)
+pub lblock_gets : (old new : Source) (got : Result ℕ HeaderStop) → GetsRun true 22 old new got → Gets (read_lblock 3) old new (lblock_answer got)
 lblock_gets old new (Ok n) g = λ before done s.
     let a = g before done s in
-    let l = behind done (all_of before old) in
+    let l = bits_after done (all_of before old) in
     let rest = a.2.0 in
-    let Q : Result ℕ Stop → Type 0 = λ x. Moved (read_lblock 3) (behind_answer (read_lblock 3) x) before done old new x in
+    let Q : Result ℕ HeaderStop → Type 0 = λ x. Moved (read_lblock 3) (behind_answer (read_lblock 3) x) before done old new x in
     elim (leb_tells 22 n) [
       | inl t ↦
           let few : nat_lt n 22 ≡ false = lt-leb (suc n) 22 (omega (arith, t.1)) in
@@ -132,22 +132,22 @@ lblock_gets old new (Ok n) g = λ before done s.
           let few : nat_lt n 22 ≡ true = le-leb (suc n) 22 (omega (arith, t.1)) in
           let is : lblock_answer (Ok n) ≡ Ok (3 + n) = rw t.0 refl in
           let goes : (further : List Bool) → read_lblock 3 (run_bits true 22 n ++ further) ≡ Got (3 + n) further = λ further. rw few (ap (read_lblock 3) (append_assoc (replicate n true) (false ∷ []) further) ∙ lblock_of_run n 3 further (omega (arith, t.1))) in
-          subst Q (sym is) (record { more = run_bits true 22 n; stands = a.1; goes_on = goes })
+          subst Q (sym is) (record { more = run_bits true 22 n; holds = a.1; goes_on = goes })
     ]
 lblock_gets old new (Err stopped) g = λ before done s.
     let a = g before done s in
-    let l = behind done (all_of before old) in
-    let P : List Bool → Type 0 = λ m. StandsAt before m new in
+    let l = bits_after done (all_of before old) in
+    let P : List Bool → Type 0 = λ m. HasGiven before m new in
     let read : read_lblock 3 l ≡ AtEnd = ap (read_lblock 3) a.0.2 ∙ lblock_of_ones a.0.0 3 (omega (arith, a.0.1)) in (
       rw read a.1,
-      λ n. let q = a.2 n in record { whole = q.0; went = record { more = []; stands = subst P (sym (append-nil done)) q.1; goes_on = λ further. refl } },
+      λ n. let q = a.2 n in record { whole = q.0; went = record { more = []; holds = subst P (sym (append-nil done)) q.1; goes_on = λ further. refl } },
     )
 
 -- what an answer to a run says
-pub lblock_found : (got : Result ℕ Stop) (n : ℕ) → got ≡ Ok n → n < 22 → lblock_answer got ≡ Ok (3 + n)
+pub lblock_found : (got : Result ℕ HeaderStop) (n : ℕ) → got ≡ Ok n → n < 22 → lblock_answer got ≡ Ok (3 + n)
 lblock_found got n e h = let t : nat_le 22 n ≡ false = lt-leb 22 n h in ap lblock_answer e ∙ rw t refl
 
-pub lblock_great : (got : Result ℕ Stop) (n : ℕ) → got ≡ Ok n → 22 ≤ n → lblock_answer got ≡ Err (Bad why.LengthBits)
+pub lblock_great : (got : Result ℕ HeaderStop) (n : ℕ) → got ≡ Ok n → 22 ≤ n → lblock_answer got ≡ Err (Bad why.LengthBits)
 lblock_great got n e h = let t : nat_le 22 n ≡ true = le-leb 22 n h in ap lblock_answer e ∙ rw t refl
 
 -- the length of a refinement segment, by its number

@@ -1,33 +1,31 @@
 -- What a reader of packet headers answers for all bytes that it was fed.
-use Rattle.std.proofs.Common.{◌≡◌, ◌≢◌, ◌↔◌, ◌<◌, ◌≤◌, ◌+◌, ◌-◌, ◌==◌, ◌&&◌, ◌++◌, ℕ, zero, suc, min, Bool, true, false, List, [], ◌∷◌, map, length, take, drop, get_or, drop-cons, nat_lt, Result, Ok, Err, refl, sym, ◌∙◌, ap, subst, inl, inr, arith, append_assoc, if◌then◌else◌}
+use Rattle.std.proofs.Common.{◌≡◌, ◌≢◌, ◌<◌, ◌≤◌, ◌+◌, ◌-◌, ◌==◌, ◌++◌, ℕ, suc, min, Bool, true, false, List, [], ◌∷◌, map, length, take, drop, get_or, drop-cons, Result, Ok, Err, refl, sym, ◌∙◌, ap, subst, inl, inr, arith, append_assoc}
 use Rattle.std.proofs.lemmas.Bool.{le-ltb, lt-ltb}
 use Rattle.std.proofs.lemmas.Bool.Decides.{leb_tells, eqb_tells}
-use Rattle.std.proofs.lemmas.List.{append-nil, length-append, length-take, length-drop, take-append-drop, take_all}
+use Rattle.std.proofs.lemmas.List.{append-nil, length-append, take-append-drop, take_all}
 use Rattle.codestream_model.specs.Values as values
 use Rattle.codestream_model.specs.Bytes.{IsBytes}
 use Rattle.codestream_model.specs.StuffedBits.{packed_bits, bytes_of_bits}
-use Rattle.codestream_model.specs.HeaderPieces.{HeaderRefusal, NoEph}
+use Rattle.codestream_model.specs.HeaderPieces.{HeaderRefusal}
 use Rattle.codestream_model.specs.PacketHeader.{HaveOwnBands, SpellsHeader}
 use Rattle.codestream_model.specs.PacketHeaderReading.{HeaderReading, Done, Need, Bad, Read, Got, AtEnd, Refused, read_bits, header_of}
-use Rattle.codestream_model.specs.MarkedHeader.{SpellsMarkedHeader, RefusesMarkedHeader, NeedsMarkedHeaderBytes, after_header, marked_answer, marked_header_of}
+use Rattle.codestream_model.specs.MarkedHeader.{after_header, marked_answer, marked_header_of}
 use Rattle.codestream_model.proofs.BytesLemmas.{bytes_join, bytes_front}
 use Rattle.codestream_model.proofs.Marked.{marked_read, marked_sound, marked_refusal_read, marked_refusal_sound, marked_needs_read, marked_needs_sound}
 use Rattle.codestream_model.proofs.HeaderLemmas.{header_read}
 use Rattle.codestream_model.proofs.SoundLemmas.{header_sound}
-use Rattle.stuffed_bits.specs.Hand.{Hand, IsFree}
-use Rattle.stuffed_bits.specs.BitsRead.{HasRead}
-use Rattle.stuffed_bits.specs.declared.part.Part.{Part}
-use Rattle.packet_header.specs.Answers.{block_of, why_of, stop_at, out_at, Tells}
-use Rattle.packet_header.specs.Moves.{StandsAt, taken_of, all_of, behind, IsStop}
+use Rattle.stuffed_bits.specs.BitInState.{BitInState, IsFree}
+use Rattle.packet_header.specs.Answers.{block_of, why_of, out_at, Tells}
+use Rattle.packet_header.specs.Moves.{taken_of, all_of, bits_after, IsStop}
 use Rattle.packet_header.specs.Steps.{Fits}
-use Rattle.packet_header.specs.Seats.{ahead}
+use Rattle.packet_header.specs.Positions.{ahead}
 use Rattle.packet_header.specs.Closing.{closed_after, counted, Closes}
 use Rattle.packet_header.specs.Blocks.{grids_left, grids_rest, header_rest, left_of, IsAmong, HasTaken, Took}
 use Rattle.packet_header.specs.Headers.{ReaderState, grids_of, IsSameHeader, IsFed, IsFedAt, IsRead, ReadsHeader, ReadsOn, AnswersFor, out_of, counted_out}
 use Rattle.packet_header.specs.Marked.{end_out, IsRest}
 use Rattle.packet_header.specs.declared.block.Block.{Block}
 use Rattle.packet_header.specs.declared.blocks.BlocksReader.{BlocksReader}
-use Rattle.packet_header.specs.declared.source.Source.{Source}
+use Rattle.stuffed_bits.specs.declared.source.Source.{Source}
 use Rattle.packet_header.specs.declared.step.Step.{Step}
 use Rattle.packet_header.specs.declared.step.Step.TheVariants.{Inclusion}
 use Rattle.packet_header.specs.declared.reader.Stage.{Stage}
@@ -35,13 +33,13 @@ use Rattle.packet_header.specs.declared.reader.Stage.TheVariants.{Header, Eph, E
 use Rattle.packet_header.specs.declared.refusal.HeaderOut.{HeaderOut}
 use Rattle.packet_header.specs.declared.refusal.HeaderOut.TheVariants as out
 use Rattle.packet_header.specs.declared.refusal.HeaderWhy.TheVariants as why
-use Rattle.packet_header.specs.declared.refusal.Stop.{Stop}
-use Rattle.packet_header.specs.declared.refusal.Stop.TheVariants as stop
+use Rattle.packet_header.specs.declared.refusal.HeaderStop.{HeaderStop}
+use Rattle.packet_header.specs.declared.refusal.HeaderStop.TheVariants as stop
 use Rattle.packet_header.proofs.GridMoves.{first_of_all}
 use Rattle.packet_header.proofs.HeaderRuns.{shorter, tells, first_bytes, told_header, header_told, told_refusal, refusal_told, told_need, need_told}
 
 -- past the last grid nothing is left to be read
-pub all_read : (first : List Bool → Read (List values.Block)) (r : BlocksReader) (bytes : List ℕ) (h : Hand) (t : HasTaken first r bytes h) → grids_left r ≡ [] → r.begun ≡ true
+pub all_read : (first : List Bool → Read (List values.Block)) (r : BlocksReader) (bytes : List ℕ) (h : BitInState) (t : HasTaken first r bytes h) → grids_left r ≡ [] → r.begun ≡ true
     → (further : List Bool) → first (t.done ++ further) ≡ Got (map block_of r.blocks.items) further
 all_read first r bytes h t e b further =
     let found = map block_of r.blocks.items in
@@ -51,7 +49,7 @@ all_read first r bytes h t e b further =
     t.goes_on further ∙ (ap (ahead found) left ∙ ap (λ (xs : List values.Block). Got xs further) (append-nil found))
 
 -- and no bit of a value is kept
-pub free_at_end : (first : List Bool → Read (List values.Block)) (r : BlocksReader) (bytes : List ℕ) (h : Hand) → HasTaken first r bytes h → grids_left r ≡ [] → IsFree h
+pub free_at_end : (first : List Bool → Read (List values.Block)) (r : BlocksReader) (bytes : List ℕ) (h : BitInState) → HasTaken first r bytes h → grids_left r ≡ [] → IsFree h
 free_at_end first r bytes h t e =
     let P : List values.Grid → Type 0 = λ gs. IsAmong gs r in
     let s : r.step ≡ Inclusion = subst P e t.among in
@@ -59,17 +57,17 @@ free_at_end first r bytes h t e =
     subst Q s t.fits
 
 -- a header has a bit
-pub some_given : (gs : List values.Grid) (r : BlocksReader) (bytes : List ℕ) (h : Hand) (t : HasTaken (read_bits gs) r bytes h) → HaveOwnBands gs → grids_left r ≡ [] → r.begun ≡ true → 0 < length t.done
+pub some_given : (gs : List values.Grid) (r : BlocksReader) (bytes : List ℕ) (h : BitInState) (t : HasTaken (read_bits gs) r bytes h) → HaveOwnBands gs → grids_left r ≡ [] → r.begun ≡ true → 0 < length t.done
 some_given gs r bytes h t bands e b =
     let less = shorter gs (t.done ++ []) (map block_of r.blocks.items) [] bands (all_read (read_bits gs) r bytes h t e b []) in
     omega (arith, less, length-append t.done [])
 
 -- the header is answered where its bits are closed
-pub header_closed : (gs : List values.Grid) (r : BlocksReader) (before : List ℕ) (s : Source) (got : Result ℕ Stop) (t : HasTaken (read_bits gs) r (taken_of before s) s.bits) → grids_left r ≡ [] → r.begun ≡ true
+pub header_closed : (gs : List values.Grid) (r : BlocksReader) (before : List ℕ) (s : Source) (got : Result ℕ HeaderStop) (t : HasTaken (read_bits gs) r (taken_of before s) s.bits) → grids_left r ≡ [] → r.begun ≡ true
     → Closes before t.done s got → ReadsHeader (read_bits gs (packed_bits (all_of before s)).bits) (all_of before s) [] r.blocks.items (counted (length before) got)
 header_closed gs r before s got t e b close =
     let all = all_of before s in
-    let rest = behind t.done all in
+    let rest = bits_after t.done all in
     let bits : (packed_bits all).bits ≡ t.done ++ rest = first_of_all before t.done s (record { read = t.read }) in
     let read : read_bits gs (packed_bits all).bits ≡ Got (map block_of r.blocks.items) rest = ap (read_bits gs) bits ∙ all_read (read_bits gs) r (taken_of before s) s.bits t e b rest in
     let count : length t.done ≡ length (packed_bits all).bits - length rest = omega (arith, ap (λ (l : List Bool). length l) bits, length-append t.done rest) in
@@ -78,12 +76,12 @@ header_closed gs r before s got t e b close =
     subst P (sym read) (r.blocks.items, refl, refl, close')
 
 -- or by what stops its reading
-stopped_by : (r : Read (List values.Block)) (bytes : List ℕ) (now : List Block) (stopped : Stop) → IsStop r (packed_bits bytes).broken_at stopped → ReadsHeader r bytes [] now (Err stopped)
+stopped_by : (r : Read (List values.Block)) (bytes : List ℕ) (now : List Block) (stopped : HeaderStop) → IsStop r (packed_bits bytes).broken_at stopped → ReadsHeader r bytes [] now (Err stopped)
 stopped_by (Got blocks rest) bytes now stopped a = absurd a
 stopped_by AtEnd bytes now stopped a = ap Err a
 stopped_by (Refused reason) bytes now stopped a = ap Err a
 
-pub header_stopped : (gs : List values.Grid) (bytes : List ℕ) (now : List Block) (stopped : Stop) → IsStop (read_bits gs (packed_bits bytes).bits) (packed_bits bytes).broken_at stopped → ReadsHeader (read_bits gs (packed_bits bytes).bits) bytes [] now (Err stopped)
+pub header_stopped : (gs : List values.Grid) (bytes : List ℕ) (now : List Block) (stopped : HeaderStop) → IsStop (read_bits gs (packed_bits bytes).bits) (packed_bits bytes).broken_at stopped → ReadsHeader (read_bits gs (packed_bits bytes).bits) bytes [] now (Err stopped)
 header_stopped gs bytes now stopped a = stopped_by (read_bits gs (packed_bits bytes).bits) bytes now stopped a
 
 -- bytes and the first of a piece
@@ -104,7 +102,7 @@ front_is bytes piece fed n e low m =
     ap (λ (l : List ℕ). bytes ++ l) (first_bytes piece k n m) ∙ (sym (take_past bytes piece k) ∙ ap (λ (i : ℕ). take i (bytes ++ piece)) c)
 
 -- the answer where a byte is wanted, by the bytes of the header or by all bytes
-same_end : (size fed : ℕ) (stopped : Stop) → (size < 65536 → fed ≡ size) → (65536 ≤ size → 65536 ≤ fed) → out_at size stopped ≡ out_at fed stopped
+same_end : (size fed : ℕ) (stopped : HeaderStop) → (size < 65536 → fed ≡ size) → (65536 ≤ size → 65536 ≤ fed) → out_at size stopped ≡ out_at fed stopped
 same_end size fed (stop.Bad reason) short long = refl
 same_end size fed stop.Need short long = elim (leb_tells 65536 size) [
   | inl t ↦ rw (le-ltb size 65536 t.1, le-ltb fed 65536 (long t.1)) refl
@@ -112,7 +110,7 @@ same_end size fed stop.Need short long = elim (leb_tells 65536 size) [
 ]
 
 -- what a reader of a header answers for all bytes, where its reading of the first 65,536 ends
-pub fed_tells : (gs : List values.Grid) (bytes piece : List ℕ) (now : List Block) (fed n : ℕ) (got : Result ℕ Stop) → HaveOwnBands gs → fed ≡ length bytes → fed ≤ 65536 → n ≡ min (length piece) (65536 - fed)
+pub fed_tells : (gs : List values.Grid) (bytes piece : List ℕ) (now : List Block) (fed n : ℕ) (got : Result ℕ HeaderStop) → HaveOwnBands gs → fed ≡ length bytes → fed ≤ 65536 → n ≡ min (length piece) (65536 - fed)
     → ReadsHeader (read_bits gs (packed_bits (bytes ++ take n piece)).bits) (bytes ++ take n piece) [] now got → Tells (header_of gs (bytes ++ piece)) (out_of (length (bytes ++ piece)) got) now
 fed_tells gs bytes piece now fed n got bands e low m a =
     let P : List ℕ → Type 0 = λ l. ReadsHeader (read_bits gs (packed_bits l).bits) l [] now got in
@@ -140,7 +138,7 @@ read_alone gs all n blocks each bands e =
     (same_size n (length (take n all)) (map block_of blocks) (map block_of blocks) (sym e ∙ again), ap (header_of gs) (sym (append-nil (take n all))) ∙ alone)
 
 -- what stops a reader tells no header
-no_header : (n : ℕ) (stopped : Stop) (used : ℕ) → out_at n stopped ≡ out.Done used → ⊥
+no_header : (n : ℕ) (stopped : HeaderStop) (used : ℕ) → out_at n stopped ≡ out.Done used → ⊥
 no_header n (stop.Bad reason) used e = cc
 no_header n stop.Need used e = elim (leb_tells 65536 n) [
   | inl t ↦ let f : out.Bad why.TooLong ≡ out.Done used = rw (le-ltb n 65536 t.1) at e in cc
@@ -148,16 +146,16 @@ no_header n stop.Need used e = elim (leb_tells 65536 n) [
 ]
 
 -- and so its answer is that for the header, whether EPH is asked for or not
-stopped_answer : (eph : Bool) (bytes : List ℕ) (r : HeaderReading) (n : ℕ) (stopped : Stop) (now : List Block) → Tells r (out_at n stopped) now → Tells (marked_answer eph bytes r) (out_at n stopped) now
+stopped_answer : (eph : Bool) (bytes : List ℕ) (r : HeaderReading) (n : ℕ) (stopped : HeaderStop) (now : List Block) → Tells r (out_at n stopped) now → Tells (marked_answer eph bytes r) (out_at n stopped) now
 stopped_answer eph bytes (Done used blocks) n stopped now t = absurd (no_header n stopped used t.0)
 stopped_answer eph bytes Need n stopped now t = t
 stopped_answer eph bytes (Bad reason) n stopped now t = t
 
-pub stopped_tells : (gs : List values.Grid) (eph : Bool) (bytes : List ℕ) (n : ℕ) (stopped : Stop) (now : List Block) → Tells (header_of gs bytes) (out_at n stopped) now → Tells (marked_header_of gs eph bytes) (out_at n stopped) now
+pub stopped_tells : (gs : List values.Grid) (eph : Bool) (bytes : List ℕ) (n : ℕ) (stopped : HeaderStop) (now : List Block) → Tells (header_of gs bytes) (out_at n stopped) now → Tells (marked_header_of gs eph bytes) (out_at n stopped) now
 stopped_tells gs eph bytes n stopped now t = stopped_answer eph bytes (header_of gs bytes) n stopped now t
 
 -- it is counted as one for all bytes
-counted_stop : (earlier n : ℕ) (stopped : Stop) → counted_out earlier (out_at n stopped) ≡ out_at n stopped
+counted_stop : (earlier n : ℕ) (stopped : HeaderStop) → counted_out earlier (out_at n stopped) ≡ out_at n stopped
 counted_stop earlier n (stop.Bad reason) = refl
 counted_stop earlier n stop.Need = elim (leb_tells 65536 n) [
   | inl t ↦ rw (le-ltb n 65536 t.1) refl
@@ -165,7 +163,7 @@ counted_stop earlier n stop.Need = elim (leb_tells 65536 n) [
 ]
 
 -- where a further byte is wanted, fewer than 65,536 came
-pub needs_more : (n : ℕ) (stopped : Stop) → out_at n stopped ≡ out.Need → (stopped ≡ stop.Need) × (n < 65536)
+pub needs_more : (n : ℕ) (stopped : HeaderStop) → out_at n stopped ≡ out.Need → (stopped ≡ stop.Need) × (n < 65536)
 needs_more n (stop.Bad reason) e = absurd (cc)
 needs_more n stop.Need e = elim (leb_tells 65536 n) [
   | inl t ↦ absurd (let f : out.Bad why.TooLong ≡ out.Need = rw (le-ltb n 65536 t.1) at e in cc)
@@ -173,7 +171,7 @@ needs_more n stop.Need e = elim (leb_tells 65536 n) [
 ]
 
 -- a reading of a header that stops, and what is answered for the header and its EPH
-pub stopped_fed : (gs : List values.Grid) (eph : Bool) (bytes piece : List ℕ) (now : List Block) (fed n : ℕ) (stopped : Stop) → HaveOwnBands gs → fed ≡ length bytes → fed ≤ 65536 → n ≡ min (length piece) (65536 - fed)
+pub stopped_fed : (gs : List values.Grid) (eph : Bool) (bytes piece : List ℕ) (now : List Block) (fed n : ℕ) (stopped : HeaderStop) → HaveOwnBands gs → fed ≡ length bytes → fed ≤ 65536 → n ≡ min (length piece) (65536 - fed)
     → ReadsHeader (read_bits gs (packed_bits (bytes ++ take n piece)).bits) (bytes ++ take n piece) [] now (Err stopped)
     → Tells (marked_header_of gs eph (bytes ++ piece)) (counted_out (length bytes) (out_at (fed + n) stopped)) now
 stopped_fed gs eph bytes piece now fed n stopped bands e low m a =
@@ -292,14 +290,14 @@ pub at_header : (r : ReaderState) (bytes : List ℕ) → IsFed r bytes → r.sta
 at_header r bytes f s = let P : Stage → Type 0 = λ x. IsFedAt x r bytes in subst P s f.by_stage
 
 -- the answer where the reading of the header stops
-pub header_stops : (r now : ReaderState) (bytes piece : List ℕ) (n : ℕ) (stopped : Stop) → IsFed r bytes → r.stage ≡ Header → r.fed ≤ 65536 → n ≡ min (length piece) (65536 - r.fed) → ReadsOn r now (take n piece) (Err stopped)
+pub header_stops : (r now : ReaderState) (bytes piece : List ℕ) (n : ℕ) (stopped : HeaderStop) → IsFed r bytes → r.stage ≡ Header → r.fed ≤ 65536 → n ≡ min (length piece) (65536 - r.fed) → ReadsOn r now (take n piece) (Err stopped)
     → Tells (marked_header_of (grids_of r) r.eph (bytes ++ piece)) (counted_out (length bytes) (out_at (r.fed + n) stopped)) now.blocks
 header_stops r now bytes piece n stopped f s low m read =
     let h = at_header r bytes f s in
     stopped_fed (grids_of r) r.eph bytes piece now.blocks r.fed n stopped f.own_bands h.0 low m (read bytes h.2)
 
 -- where a further piece is wanted, the reader goes on in it
-pub header_waits : (r now : ReaderState) (bytes piece : List ℕ) (n : ℕ) (stopped : Stop) → IsFed r bytes → r.stage ≡ Header → IsBytes piece → r.fed ≤ 65536 → n ≡ min (length piece) (65536 - r.fed) → out_at (r.fed + n) stopped ≡ out.Need
+pub header_waits : (r now : ReaderState) (bytes piece : List ℕ) (n : ℕ) (stopped : HeaderStop) → IsFed r bytes → r.stage ≡ Header → IsBytes piece → r.fed ≤ 65536 → n ≡ min (length piece) (65536 - r.fed) → out_at (r.fed + n) stopped ≡ out.Need
     → now.stage ≡ r.stage → IsSameHeader r now
     → (stopped ≡ stop.Need → HasTaken (read_bits (grids_of r)) r.progress bytes r.bits → HasTaken (read_bits (grids_of r)) now.progress (bytes ++ take n piece) now.bits) → IsFed (record now { fed = r.fed + n }) (bytes ++ piece)
 header_waits r now bytes piece n stopped f s each low m need stage same rests =
@@ -403,7 +401,7 @@ feeds gs eph bytes piece answer blocks bands each t =
     }
 
 -- a call that goes on from another in the same piece
-pub took_from : (first : List Bool → Read (List values.Block)) (r : BlocksReader) (before : List ℕ) (old mid new : Source) (out : Result (Unit {0}) Stop) → mid.piece.now ≡ old.piece.now → Took first r before mid new out → Took first r before old new out
+pub took_from : (first : List Bool → Read (List values.Block)) (r : BlocksReader) (before : List ℕ) (old mid new : Source) (out : Result (Unit {0}) HeaderStop) → mid.piece.now ≡ old.piece.now → Took first r before mid new out → Took first r before old new out
 took_from first r before old mid new (Ok x) e a = a
 took_from first r before old mid new (Err stopped) e a =
     let P : List ℕ → Type 0 = λ l. IsStop (first (packed_bits (before ++ l)).bits) (packed_bits (before ++ l)).broken_at stopped in

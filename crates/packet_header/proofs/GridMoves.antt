@@ -1,8 +1,8 @@
 -- The grids of a header, one after another.
-use Rattle.std.proofs.Common.{◌≡◌, ◌≢◌, ◌<◌, ◌≤◌, ◌+◌, ◌-◌, ◌*◌, ◌++◌, ℕ, zero, suc, Bool, true, false, List, [], ◌∷◌, map, length, take, drop, vec_len, vec_capacity, Result, Ok, Err, refl, sym, ◌∙◌, ap, subst, inl, inr, arith, append_assoc}
+use Rattle.std.proofs.Common.{◌≡◌, ◌≢◌, ◌<◌, ◌≤◌, ◌+◌, ◌-◌, ◌*◌, ◌++◌, ℕ, zero, suc, Bool, true, false, List, [], ◌∷◌, map, length, vec_len, vec_capacity, Result, Ok, Err, refl, sym, ◌∙◌, ap, subst, inl, inr, arith, append_assoc}
 use Rattle.std.specs.List.{flat_map, range_with_len}
 use Rattle.std.proofs.lemmas.Bool.Decides.{leb_tells, eqb_tells}
-use Rattle.std.proofs.lemmas.List.{append-nil, map-append, length-append}
+use Rattle.std.proofs.lemmas.List.{map-append, length-append}
 use Rattle.std.proofs.lemmas.List.FromFn.{length-map-range_with_len}
 use Rattle.std.proofs.lemmas.List.Sums.{sum_by-cons}
 use Rattle.codestream_model.specs.Values as values
@@ -10,33 +10,32 @@ use Rattle.codestream_model.specs.StuffedBits.{packed_bits}
 use Rattle.codestream_model.specs.Packet.{block_count}
 use Rattle.codestream_model.specs.TagTrees.{Seat, seats, root_level, levels_from}
 use Rattle.codestream_model.specs.PacketHeaderReading.{Read, Got, AtEnd, Refused, Node, and_then, read_bit, read_either, read_seats, read_grids, read_bits}
-use Rattle.stuffed_bits.specs.Hand.{Hand}
+use Rattle.stuffed_bits.specs.BitInState.{BitInState}
 use Rattle.stuffed_bits.specs.BitsRead.{HasRead}
 use Rattle.stuffed_bits.specs.declared.part.Part.{Part}
 use Rattle.stuffed_bits.specs.declared.part.Part.TheVariants.{Nothing}
 use Rattle.precinct_geometry.specs.Spans.{grid_of}
 use Rattle.packet_header.specs.Answers.{block_of}
-use Rattle.packet_header.specs.Moves.{StandsAt, taken_of, all_of, behind, Went, IsStop, Moved}
+use Rattle.packet_header.specs.Moves.{HasGiven, taken_of, all_of, bits_after, Went, IsStop, Moved}
 use Rattle.packet_header.specs.Steps.{Fits}
-use Rattle.packet_header.specs.Leaves.{levels_of}
-use Rattle.packet_header.specs.Seats.{KnowsBoth, HasGrid, IsUnread, FitsSeat, ahead}
-use Rattle.packet_header.specs.Walks.{walk_rest, seats_from, WalkWent, IsUnreadAt, Walks}
+use Rattle.tag_tree.specs.Kinds.{levels_of}
+use Rattle.packet_header.specs.Positions.{KnowsBoth, HasGrid, IsUnread, FitsAt, ahead}
+use Rattle.packet_header.specs.Walks.{walk_rest, positions_from, WalkWent, IsUnreadAt, Walks}
 use Rattle.packet_header.specs.Blocks.{grid_and_more, grids_rest, header_rest, grids_left, left_of, IsInGrid, IsAmong, IsNextUnread, IsEntered, later_grids, HasTaken, TookPart}
 use Rattle.packet_header.specs.declared.block.Block.{Block}
 use Rattle.packet_header.specs.declared.blocks.BlocksReader.{BlocksReader}
 use Rattle.packet_header.specs.declared.grids.TagTrees.{TagTrees}
-use Rattle.packet_header.specs.declared.source.Source.{Source}
+use Rattle.stuffed_bits.specs.declared.source.Source.{Source}
 use Rattle.packet_header.specs.declared.step.Step.{Step}
 use Rattle.packet_header.specs.declared.step.Step.TheVariants.{Inclusion}
-use Rattle.packet_header.specs.declared.refusal.Stop.{Stop}
-use Rattle.packet_header.specs.declared.refusal.Stop.TheVariants.{Need}
+use Rattle.packet_header.specs.declared.refusal.HeaderStop.{HeaderStop}
 use Rattle.packet_header.proofs.Moving.{same_stop, stops_then, left_behind}
-use Rattle.packet_header.proofs.SeatMoves.{unread_free}
+use Rattle.packet_header.proofs.PositionMoves.{unread_free}
 use Rattle.packet_header.proofs.GridRuns.{no_grids_from}
-use Rattle.packet_header.proofs.WalkMoves.{walk_begins, twice_ahead, none_ahead, all_seats, next_in_row, next_row, none_behind}
+use Rattle.packet_header.proofs.WalkMoves.{walk_begins, twice_ahead, none_ahead, all_positions, next_in_row, next_row, none_behind}
 
 -- all bits that came are those that were given and those after them
-pub first_of_all : (before : List ℕ) (done : List Bool) (s : Source) → StandsAt before done s → (packed_bits (all_of before s)).bits ≡ done ++ behind done (all_of before s)
+pub first_of_all : (before : List ℕ) (done : List Bool) (s : Source) → HasGiven before done s → (packed_bits (all_of before s)).bits ≡ done ++ bits_after done (all_of before s)
 first_of_all before done s h = left_behind before [] done s s refl h
 
 -- code-blocks ahead of a grid's stay ahead of the later grids'
@@ -51,7 +50,7 @@ unfolding read_grids
 grids_begin [] l = refl
 grids_begin (g ∷ later) l =
     let levels = levels_from (root_level g) in
-    let e : read_seats levels (seats g) [] [] l ≡ walk_rest levels (seats_from g 0 0) [] [] Inclusion l = ap (λ (s : List Seat). read_seats levels s [] [] l) (all_seats g) ∙ walk_begins levels (seats_from g 0 0) [] [] l in
+    let e : read_seats levels (seats g) [] [] l ≡ walk_rest levels (positions_from g 0 0) [] [] Inclusion l = ap (λ (s : List Seat). read_seats levels s [] [] l) (all_positions g) ∙ walk_begins levels (positions_from g 0 0) [] [] l in
     ap (λ (r : Read (List values.Block)). and_then r (grid_and_more later)) e
 
 -- before the first bit
@@ -62,11 +61,11 @@ bits_begin gs (false ∷ l) = refl
 bits_begin gs (true ∷ l) = grids_begin gs l
 
 -- what stops a reading of what is left, stops the reading of all
-pub taken_stops : (first : List Bool → Read (List values.Block)) (r : BlocksReader) (before : List ℕ) (s : Source) (stopped : Stop) (t : HasTaken first r (taken_of before s) s.bits)
-    → IsStop (left_of r t.nodes t.others (behind t.done (all_of before s))) (packed_bits (all_of before s)).broken_at stopped
+pub taken_stops : (first : List Bool → Read (List values.Block)) (r : BlocksReader) (before : List ℕ) (s : Source) (stopped : HeaderStop) (t : HasTaken first r (taken_of before s) s.bits)
+    → IsStop (left_of r t.nodes t.others (bits_after t.done (all_of before s))) (packed_bits (all_of before s)).broken_at stopped
     → IsStop (first (packed_bits (all_of before s)).bits) (packed_bits (all_of before s)).broken_at stopped
 taken_stops first r before s stopped t a =
-    let l = behind t.done (all_of before s) in
+    let l = bits_after t.done (all_of before s) in
     let broken = (packed_bits (all_of before s)).broken_at in
     let found = map block_of r.blocks.items in
     let e : first (packed_bits (all_of before s)).bits ≡ ahead found (left_of r t.nodes t.others l) = ap first (first_of_all before t.done s (record { read = t.read })) ∙ t.goes_on l in
@@ -74,14 +73,14 @@ taken_stops first r before s stopped t a =
 
 -- a part of a grid was read
 pub grids_went : (levels : List ℕ) (g : values.Grid) (later : List values.Grid) (row col now_row now_col : ℕ) (nodes others known known_others : List Node) (step at : Step) (bits : List Bool) (added : List values.Block) → levels ≡ levels_from (root_level g)
-    → ((further : List Bool) → walk_rest levels (seats_from g row col) nodes others step (bits ++ further) ≡ ahead added (walk_rest levels (seats_from g now_row now_col) known known_others at further))
+    → ((further : List Bool) → walk_rest levels (positions_from g row col) nodes others step (bits ++ further) ≡ ahead added (walk_rest levels (positions_from g now_row now_col) known known_others at further))
     → (further : List Bool) → grids_rest (g ∷ later) row col step nodes others (bits ++ further) ≡ ahead added (grids_rest (g ∷ later) now_row now_col at known known_others further)
 grids_went levels g later row col now_row now_col nodes others known known_others step at bits added e w further =
-    let P : List ℕ → Type 0 = λ ls. and_then (walk_rest ls (seats_from g row col) nodes others step (bits ++ further)) (grid_and_more later) ≡ ahead added (and_then (walk_rest ls (seats_from g now_row now_col) known known_others at further) (grid_and_more later)) in
-    subst P e (ap (λ (r : Read (List values.Block)). and_then r (grid_and_more later)) (w further) ∙ ahead_of_grids added (walk_rest levels (seats_from g now_row now_col) known known_others at further) later)
+    let P : List ℕ → Type 0 = λ ls. and_then (walk_rest ls (positions_from g row col) nodes others step (bits ++ further)) (grid_and_more later) ≡ ahead added (and_then (walk_rest ls (positions_from g now_row now_col) known known_others at further) (grid_and_more later)) in
+    subst P e (ap (λ (r : Read (List values.Block)). and_then r (grid_and_more later)) (w further) ∙ ahead_of_grids added (walk_rest levels (positions_from g now_row now_col) known known_others at further) later)
 
 -- all of a grid was read
-pub grid_ends : (g : values.Grid) (later : List values.Grid) (row col : ℕ) (nodes others : List Node) (step : Step) (l : List Bool) → seats_from g row col ≡ []
+pub grid_ends : (g : values.Grid) (later : List values.Grid) (row col : ℕ) (nodes others : List Node) (step : Step) (l : List Bool) → positions_from g row col ≡ []
     → grids_rest (g ∷ later) row col step nodes others l ≡ grids_rest later 0 0 Inclusion [] [] l
 grid_ends g later row col nodes others step l e =
     let levels = levels_from (root_level g) in
@@ -111,7 +110,7 @@ among_begun [] r a = a
 among_begun (g ∷ later) r a = record { grid = a.grid; col_in = a.col_in; none = a.none; inclusion = a.inclusion; planes = a.planes; room = a.room }
 
 -- the first bit was read, by what is read of it
-first_then : (first : List Bool → Read (List values.Block)) (r : BlocksReader) (bytes : List ℕ) (h : Hand) (t : HasTaken first r bytes h) (b : Bool) (more : List Bool) → r.begun ≡ false
+first_then : (first : List Bool → Read (List values.Block)) (r : BlocksReader) (bytes : List ℕ) (h : BitInState) (t : HasTaken first r bytes h) (b : Bool) (more : List Bool) → r.begun ≡ false
     → ((further : List Bool) → read_bit (more ++ further) ≡ Got b further) → (further : List Bool)
     → first ((t.done ++ more) ++ further) ≡ ahead (map block_of r.blocks.items) (read_either b (grids_rest (grids_left r) r.row r.col r.step t.nodes t.others) (λ k. Got [] k) further)
 first_then first r bytes h t b more e goes further =
@@ -128,7 +127,7 @@ first_filled first r before old new t e free w = record {
   done = t.done ++ w.more;
   nodes = t.nodes;
   others = t.others;
-  read = w.stands.read;
+  read = w.holds.read;
   knows = t.knows;
   unread = next_unread_free (grids_left r) (record r { begun = true }) t.others new.bits.part free;
   fits = fits_free r.step new.bits.part (t.fresh e) free;
@@ -147,7 +146,7 @@ first_empty first r before old new last t e free all w =
       done = t.done ++ w.more;
       nodes = t.nodes;
       others = t.others;
-      read = w.stands.read;
+      read = w.holds.read;
       knows = t.knows;
       unread = next_unread_free (grids_left now) now t.others new.bits.part free;
       fits = fits_free r.step new.bits.part (t.fresh e) free;
@@ -158,10 +157,10 @@ first_empty first r before old new last t e free all w =
     }
 
 -- or the reading of it stops
-pub first_stops : (first : List Bool → Read (List values.Block)) (r : BlocksReader) (before : List ℕ) (old new : Source) (stopped : Stop) (t : HasTaken first r (taken_of before old) old.bits) → r.begun ≡ false → new.bits.part ≡ Nothing
+pub first_stops : (first : List Bool → Read (List values.Block)) (r : BlocksReader) (before : List ℕ) (old new : Source) (stopped : HeaderStop) (t : HasTaken first r (taken_of before old) old.bits) → r.begun ≡ false → new.bits.part ≡ Nothing
     → Moved {Y = Bool} read_bit read_bit before t.done old new (Err stopped) → TookPart first r before old new (Err stopped)
 first_stops first r before old new stopped t e free m =
-    let l = behind t.done (all_of before old) in
+    let l = bits_after t.done (all_of before old) in
     let broken = (packed_bits (all_of before old)).broken_at in
     let found = map block_of r.blocks.items in
     let rest = grids_rest (grids_left r) r.row r.col r.step t.nodes t.others in
@@ -175,7 +174,7 @@ first_stops first r before old new stopped t e free m =
               done = t.done ++ w.went.more;
               nodes = t.nodes;
               others = t.others;
-              read = w.went.stands.read;
+              read = w.went.holds.read;
               knows = t.knows;
               unread = next_unread_free (grids_left r) r t.others new.bits.part free;
               fits = fits_free r.step new.bits.part (t.fresh e) free;
@@ -197,7 +196,7 @@ left_in r gs nodes others l b e =
 -- a part of a grid was read
 pub grid_part : (first : List Bool → Read (List values.Block)) (g : values.Grid) (later : List values.Grid) (r now : BlocksReader) (before : List ℕ) (old new : Source) (t : HasTaken first r (taken_of before old) old.bits) → grids_left r ≡ g ∷ later → grids_left now ≡ g ∷ later
     → r.begun ≡ true → now.begun ≡ true → levels_of r.trees.inclusion ≡ levels_from (root_level g) → IsAmong (g ∷ later) now → Fits now.step new.bits.part
-    → (w : WalkWent (levels_of r.trees.inclusion) (seats_from g r.row r.col) (seats_from g now.row now.col) t.nodes t.others now.trees r.step now.step before t.done new r.blocks.items now.blocks.items)
+    → (w : WalkWent (levels_of r.trees.inclusion) (positions_from g r.row r.col) (positions_from g now.row now.col) t.nodes t.others now.trees r.step now.step before t.done new r.blocks.items now.blocks.items)
     → IsNextUnread (g ∷ later) now w.known_others new.bits.part → HasTaken first now (taken_of before new) new.bits
 grid_part first g later r now before old new t e f b c levels among fits w unread =
     let found = map block_of r.blocks.items in
@@ -207,7 +206,7 @@ grid_part first g later r now before old new t e f b c levels among fits w unrea
       done = t.done ++ w.bits;
       nodes = w.known;
       others = w.known_others;
-      read = w.stands.read;
+      read = w.holds.read;
       knows = w.knows;
       unread = subst U (sym f) unread;
       fits = fits;
@@ -222,17 +221,17 @@ grid_part first g later r now before old new t e f b c levels among fits w unrea
     }
 
 -- or the reading stops in it
-pub grid_stops : (first : List Bool → Read (List values.Block)) (g : values.Grid) (later : List values.Grid) (r : BlocksReader) (before : List ℕ) (s : Source) (stopped : Stop) (t : HasTaken first r (taken_of before s) s.bits) → grids_left r ≡ g ∷ later → r.begun ≡ true
+pub grid_stops : (first : List Bool → Read (List values.Block)) (g : values.Grid) (later : List values.Grid) (r : BlocksReader) (before : List ℕ) (s : Source) (stopped : HeaderStop) (t : HasTaken first r (taken_of before s) s.bits) → grids_left r ≡ g ∷ later → r.begun ≡ true
     → levels_of r.trees.inclusion ≡ levels_from (root_level g)
-    → IsStop (walk_rest (levels_of r.trees.inclusion) (seats_from g r.row r.col) t.nodes t.others r.step (behind t.done (all_of before s))) (packed_bits (all_of before s)).broken_at stopped
+    → IsStop (walk_rest (levels_of r.trees.inclusion) (positions_from g r.row r.col) t.nodes t.others r.step (bits_after t.done (all_of before s))) (packed_bits (all_of before s)).broken_at stopped
     → IsStop (first (packed_bits (all_of before s)).bits) (packed_bits (all_of before s)).broken_at stopped
 grid_stops first g later r before s stopped t e b levels a =
-    let l = behind t.done (all_of before s) in
+    let l = bits_after t.done (all_of before s) in
     let broken = (packed_bits (all_of before s)).broken_at in
-    let P : List ℕ → Type 0 = λ ls. IsStop (walk_rest ls (seats_from g r.row r.col) t.nodes t.others r.step l) broken stopped in
+    let P : List ℕ → Type 0 = λ ls. IsStop (walk_rest ls (positions_from g r.row r.col) t.nodes t.others r.step l) broken stopped in
     taken_stops first r before s stopped t
     (same_stop (left_of r t.nodes t.others l) (grids_rest (g ∷ later) r.row r.col r.step t.nodes t.others l) broken stopped (left_in r (g ∷ later) t.nodes t.others l b e)
-    (stops_then (walk_rest (levels_from (root_level g)) (seats_from g r.row r.col) t.nodes t.others r.step l) (grid_and_more later) broken stopped (subst P levels a)))
+    (stops_then (walk_rest (levels_from (root_level g)) (positions_from g r.row r.col) t.nodes t.others r.step l) (grid_and_more later) broken stopped (subst P levels a)))
 
 -- the code-blocks of rows of a grid, and how many these and all are
 abbrev rows_of : values.Grid → List ℕ → List Seat
@@ -250,10 +249,10 @@ rows_length g a (suc n) =
     let sum : length row + length rest ≡ suc n * g.cols = omega (arith, own, more) in
     whole ∙ sum
 
-seats_length : (g : values.Grid) → length (seats_from g 0 0) ≡ g.cols * g.rows
-seats_length g =
+positions_length : (g : values.Grid) → length (positions_from g 0 0) ≡ g.cols * g.rows
+positions_length g =
     let all : length (seats g) ≡ g.rows * g.cols = rows_length g 0 g.rows in
-    let same : length (seats g) ≡ length (seats_from g 0 0) = ap (λ (l : List Seat). length l) (all_seats g) in
+    let same : length (seats g) ≡ length (positions_from g 0 0) = ap (λ (l : List Seat). length l) (all_positions g) in
     omega (arith, all, same)
 
 -- a reader at the first code-block of a grid
@@ -271,7 +270,7 @@ among_entered (g ∷ later) r i u a s inclusion planes room =
       none = λ e. s;
       inclusion = omega (arith, inclusion, n);
       planes = omega (arith, planes, n);
-      room = omega (arith, room, n, seats_length g);
+      room = omega (arith, room, n, positions_length g);
     }
 
 none_known : (gs : List values.Grid) (u : TagTrees) → IsEntered gs u → KnowsBoth u [] []
@@ -279,8 +278,8 @@ none_known [] u a = a
 none_known (g ∷ later) u a = a.1
 
 -- the next grid is entered
-pub grid_entered : (first : List Bool → Read (List values.Block)) (g : values.Grid) (later : List values.Grid) (r : BlocksReader) (i : ℕ) (u : TagTrees) (bytes : List ℕ) (h : Hand) → (t : HasTaken first r bytes h) → grids_left r ≡ g ∷ later → later_grids i r ≡ later → r.begun ≡ true
-    → seats_from g r.row r.col ≡ [] → IsEntered (later_grids i r) u → u.inclusion.leaves ≡ r.trees.inclusion.leaves → u.planes.leaves ≡ r.trees.planes.leaves → HasTaken first (entered i u r) bytes h
+pub grid_entered : (first : List Bool → Read (List values.Block)) (g : values.Grid) (later : List values.Grid) (r : BlocksReader) (i : ℕ) (u : TagTrees) (bytes : List ℕ) (h : BitInState) → (t : HasTaken first r bytes h) → grids_left r ≡ g ∷ later → later_grids i r ≡ later → r.begun ≡ true
+    → positions_from g r.row r.col ≡ [] → IsEntered (later_grids i r) u → u.inclusion.leaves ≡ r.trees.inclusion.leaves → u.planes.leaves ≡ r.trees.planes.leaves → HasTaken first (entered i u r) bytes h
 grid_entered first g later r i u bytes h t e f b none enters inclusion planes =
     let now = entered i u r in
     let found = map block_of r.blocks.items in
@@ -309,7 +308,7 @@ grid_entered first g later r i u bytes h t e f b none enters inclusion planes =
     }
 
 -- the header of a precinct is begun
-pub header_begun : (gs : List values.Grid) (r : BlocksReader) (u : TagTrees) (h : Hand) → map grid_of r.bands.items ≡ gs → r.begun ≡ false → r.step ≡ Inclusion → r.blocks.items ≡ [] → vec_len r.blocks ≡ 0 → h.part ≡ Nothing → HasRead [] [] h → IsEntered (later_grids 0 r) u
+pub header_begun : (gs : List values.Grid) (r : BlocksReader) (u : TagTrees) (h : BitInState) → map grid_of r.bands.items ≡ gs → r.begun ≡ false → r.step ≡ Inclusion → r.blocks.items ≡ [] → vec_len r.blocks ≡ 0 → h.part ≡ Nothing → HasRead [] [] h → IsEntered (later_grids 0 r) u
     → block_count gs ≤ u.inclusion.leaves → block_count gs ≤ u.planes.leaves → block_count gs ≤ vec_capacity r.blocks → HasTaken (read_bits gs) (entered 0 u r) [] h
 header_begun gs r u h e b s none empty free read enters inclusion planes room =
     let now = entered 0 u r in
@@ -334,11 +333,11 @@ header_begun gs r u h e b s none empty free read enters inclusion planes room =
     }
 
 -- a reader in a grid
-pub in_grid : (first : List Bool → Read (List values.Block)) (g : values.Grid) (later : List values.Grid) (r : BlocksReader) (bytes : List ℕ) (h : Hand) → HasTaken first r bytes h → grids_left r ≡ g ∷ later → IsInGrid g later r
+pub in_grid : (first : List Bool → Read (List values.Block)) (g : values.Grid) (later : List values.Grid) (r : BlocksReader) (bytes : List ℕ) (h : BitInState) → HasTaken first r bytes h → grids_left r ≡ g ∷ later → IsInGrid g later r
 in_grid first g later r bytes h t e = let A : List values.Grid → Type 0 = λ gs. IsAmong gs r in subst A e t.among
 
--- the leaf of the first of the seats that are left
-unread_at : (levels : List ℕ) (g : values.Grid) (row col : ℕ) (others : List Node) (step : Step) (p : Part) → col < g.cols → (seats_from g row col ≡ [] → step ≡ Inclusion) → IsUnreadAt levels (seats_from g row col) others step p
+-- the leaf of the first of the positions that are left
+unread_at : (levels : List ℕ) (g : values.Grid) (row col : ℕ) (others : List Node) (step : Step) (p : Part) → col < g.cols → (positions_from g row col ≡ [] → step ≡ Inclusion) → IsUnreadAt levels (positions_from g row col) others step p
     → IsUnread levels (record { band = g.band; col = col; row = row }) others step p
 unread_at levels g row col others step p within none u = elim (leb_tells (suc row) g.rows) [
   | inl t ↦ let U : List Seat → Type 0 = λ l. IsUnreadAt levels l others step p in
@@ -357,8 +356,8 @@ no_columns : (g : values.Grid) (rows : List ℕ) → g.cols ≡ 0 → rows_of g 
 no_columns g [] e = refl
 no_columns g (r ∷ rows) e = let P : ℕ → Type 0 = λ n. range_with_len 0 n ≡ [] in let z : range_with_len 0 g.cols ≡ [] = subst P (sym e) refl in ap (λ (l : List ℕ). map (λ c. record { band = g.band; col = c; row = r }) l ++ rows_of g rows) z ∙ no_columns g rows e
 
-pub no_seats : (g : values.Grid) (row col : ℕ) → g.cols ≡ 0 → seats_from g row col ≡ []
-no_seats g row col e = elim (leb_tells (suc row) g.rows) [
+pub no_positions : (g : values.Grid) (row col : ℕ) → g.cols ≡ 0 → positions_from g row col ≡ []
+no_positions g row col e = elim (leb_tells (suc row) g.rows) [
   | inl t ↦
       let z : g.cols - col ≡ zero = omega (arith, e) in
       rw (t.0, z) (no_columns g (range_with_len (row + 1) (g.rows - (row + 1))) e)
@@ -373,9 +372,9 @@ planes_levels_in : (t : TagTrees) (g : values.Grid) → HasGrid t g.cols g.rows 
 planes_levels_in t g h = rw (h.planes_cols, h.planes_rows) refl
 
 -- what a call reads of a grid, and where it stops
-pub grid_took : (first : List Bool → Read (List values.Block)) (g : values.Grid) (later : List values.Grid) (r now : BlocksReader) (before : List ℕ) (old new : Source) (out : Result (Unit {0}) Stop) (t : HasTaken first r (taken_of before old) old.bits) → grids_left r ≡ g ∷ later → grids_left now ≡ g ∷ later
-    → r.begun ≡ true → now.begun ≡ true → HasGrid r.trees g.cols g.rows → now.col < g.cols → IsInGrid g later now → FitsSeat now.step new.bits.part out
-    → Walks (levels_of r.trees.inclusion) (seats_from g r.row r.col) (seats_from g now.row now.col) t.nodes t.others now.trees r.step now.step before t.done old new r.blocks.items now.blocks.items out
+pub grid_took : (first : List Bool → Read (List values.Block)) (g : values.Grid) (later : List values.Grid) (r now : BlocksReader) (before : List ℕ) (old new : Source) (out : Result (Unit {0}) HeaderStop) (t : HasTaken first r (taken_of before old) old.bits) → grids_left r ≡ g ∷ later → grids_left now ≡ g ∷ later
+    → r.begun ≡ true → now.begun ≡ true → HasGrid r.trees g.cols g.rows → now.col < g.cols → IsInGrid g later now → FitsAt now.step new.bits.part out
+    → Walks (levels_of r.trees.inclusion) (positions_from g r.row r.col) (positions_from g now.row now.col) t.nodes t.others now.trees r.step now.step before t.done old new r.blocks.items now.blocks.items out
     → TookPart first now before old new out
 grid_took first g later r now before old new (Ok x) t e f b c grid within own fits walks =
     grid_part first g later r now before old new t e f b c (levels_in r.trees g grid) own (fits_free now.step new.bits.part fits.1 fits.0) walks (next_unread_free (g ∷ later) now walks.known_others new.bits.part fits.0)
@@ -385,7 +384,7 @@ grid_took first g later r now before old new (Err stopped) t e f b c grid within
       λ n.
           let q = walks.1 n in
           let same : levels_of r.trees.inclusion ≡ levels_of now.trees.planes = levels ∙ sym (planes_levels_in now.trees g own.grid) in
-          let U : List ℕ → Type 0 = λ ls. IsUnreadAt ls (seats_from g now.row now.col) q.1.0.known_others now.step new.bits.part in
+          let U : List ℕ → Type 0 = λ ls. IsUnreadAt ls (positions_from g now.row now.col) q.1.0.known_others now.step new.bits.part in
           let unread = unread_at (levels_of now.trees.planes) g now.row now.col q.1.0.known_others now.step new.bits.part within own.none (subst U same q.1.1) in
           (q.0, grid_part first g later r now before old new t e f b c levels own (fits n) q.1.0 unread),
     )

@@ -1,4 +1,4 @@
--- What is put of grids, one behind another, and of a whole header.
+-- What is put of grids, one after another, and of a whole header.
 use Rattle.std.proofs.Common.{◌≡◌, ◌≢◌, ◌<◌, ◌≤◌, ◌-◌, ◌++◌, ℕ, min, Bool, true, false, List, [], ◌∷◌, map, length, take, drop, ◌==◌, Result, Ok, Err, IfOk, IsErr, refl, sym, ◌∙◌, ap, subst, inl, inr, arith, append_assoc}
 use Rattle.std.specs.List.{flat_map}
 use Rattle.std.proofs.lemmas.Bool.Decides.{leb_tells}
@@ -11,35 +11,35 @@ use Rattle.codestream_model.specs.HeaderPieces.{piece_bits, bits_of, seat_pieces
 use Rattle.codestream_model.specs.PacketHeader.{HaveOwnBands, AreBlocks, SpellsHeader, least_choices, written_bits, written_header}
 use Rattle.codestream_model.proofs.PackingLemmas.{packing_packs}
 use Rattle.codestream_model.proofs.WrittenLemmas.{written_is_header}
-use Rattle.stuffed_bits.proofs.PenLemmas.{reach_is}
-use Rattle.stuffed_bits.specs.Pen.{Pen}
+use Rattle.stuffed_bits.proofs.WriterLemmas.{reach_is}
+use Rattle.stuffed_bits.specs.BitWriterState.{BitWriterState}
 use Rattle.stuffed_bits.specs.BitsWritten.{HasWritten, reach}
 use Rattle.stuffed_bits.specs.declared.bit_writer.Full.{Full}
 use Rattle.tag_tree.specs.LeafWriting.{Writes}
 use Rattle.tag_tree.proofs.ReachLemmas.{past_with_more}
 use Rattle.tag_tree.proofs.WriteLemmas.{behind_both}
 use Rattle.packet_header.specs.Puts.{Fills}
-use Rattle.packet_header.specs.SeatsWritten.{Waits, GridPut, seats_bits}
+use Rattle.packet_header.specs.PositionsWritten.{Remain, GridPut, positions_bits}
 use Rattle.packet_header.specs.declared.fault.PutFault.{PutFault}
 use Rattle.packet_header.specs.declared.fault.PutFault.TheVariants as fault
 
 -- bits that a call wrote, or for which there was no room
-pub fills_ok : (bits : List Bool) (old new : Pen) (before after : List ℕ) (x : Unit {0}) → Writes {A = Unit {0}} bits old new before after (Ok x) → Fills {A = Unit {0}} bits old new before after (Ok tt)
-fills_ok bits old new before after x w = record { full = λ done r e. absurd (cc); stands = w.stands }
+pub fills_ok : (bits : List Bool) (old new : BitWriterState) (before after : List ℕ) (x : Unit {0}) → Writes {A = Unit {0}} bits old new before after (Ok x) → Fills {A = Unit {0}} bits old new before after (Ok tt)
+fills_ok bits old new before after x w = record { full = λ done r e. absurd (cc); holds = w.holds }
 
-pub fills_full : (bits : List Bool) (old new : Pen) (before after : List ℕ) (why : Full) (out : Result (Unit {0}) PutFault) → IsErr out → Writes {A = Unit {0}} bits old new before after (Err why) → Fills {A = Unit {0}} bits old new before after out
+pub fills_full : (bits : List Bool) (old new : BitWriterState) (before after : List ℕ) (why : Full) (out : Result (Unit {0}) PutFault) → IsErr out → Writes {A = Unit {0}} bits old new before after (Err why) → Fills {A = Unit {0}} bits old new before after out
 fills_full bits old new before after why (Ok x) is w = absurd (cc)
-fills_full bits old new before after why (Err other) is w = record { full = λ done r e. (w.full done r).0 refl; stands = tt }
+fills_full bits old new before after why (Err other) is w = record { full = λ done r e. (w.full done r).0 refl; holds = tt }
 
 -- no bits
-pub fills_none : (w : Pen) (buf : List ℕ) → Fills {A = Unit {0}} [] w w buf buf (Ok tt)
+pub fills_none : (w : BitWriterState) (buf : List ℕ) → Fills {A = Unit {0}} [] w w buf buf (Ok tt)
 fills_none w buf = record {
   full = λ done r e. absurd (cc);
-  stands = λ done r. let P : List Bool → Type 0 = λ l. HasWritten l buf w in subst P (sym (append-nil done)) r;
+  holds = λ done r. let P : List Bool → Type 0 = λ l. HasWritten l buf w in subst P (sym (append-nil done)) r;
 }
 
--- bits behind others
-fills_stands : (bits more : List Bool) (old mid new : Pen) (before between after : List ℕ) (out : Result (Unit {0}) PutFault)
+-- bits after others
+fills_stands : (bits more : List Bool) (old mid new : BitWriterState) (before between after : List ℕ) (out : Result (Unit {0}) PutFault)
     → ((done : List Bool) → HasWritten done before old → HasWritten (done ++ bits) between mid)
     → IfOk out (λ _. (done : List Bool) → HasWritten done between mid → HasWritten (done ++ more) after new)
     → IfOk out (λ _. (done : List Bool) → HasWritten done before old → HasWritten (done ++ (bits ++ more)) after new)
@@ -48,74 +48,74 @@ fills_stands bits more old mid new before between after (Ok x) one two = λ done
     let P : List Bool → Type 0 = λ l. HasWritten l after new in
     subst P (append_assoc done bits more) (two (done ++ bits) (one done r))
 
-pub fills_behind : (bits more : List Bool) (old mid new : Pen) (before between after : List ℕ) (x : Unit {0}) (out : Result (Unit {0}) PutFault) → length between ≡ length before
+pub fills_behind : (bits more : List Bool) (old mid new : BitWriterState) (before between after : List ℕ) (x : Unit {0}) (out : Result (Unit {0}) PutFault) → length between ≡ length before
     → Fills {A = Unit {0}} bits old mid before between (Ok x) → Fills {A = Unit {0}} more mid new between after out → Fills {A = Unit {0}} (bits ++ more) old new before after out
 fills_behind bits more old mid new before between after x out same one two = record {
   full = λ done r e.
       let P : List Bool → Type 0 = λ l. length before < reach l in
       let Q : ℕ → Type 0 = λ n. n < reach ((done ++ bits) ++ more) in
-      subst P (append_assoc done bits more) (subst Q same (two.full (done ++ bits) (one.stands done r) e));
-  stands = fills_stands bits more old mid new before between after out one.stands two.stands;
+      subst P (append_assoc done bits more) (subst Q same (two.full (done ++ bits) (one.holds done r) e));
+  holds = fills_stands bits more old mid new before between after out one.holds two.holds;
 }
 
--- bits behind which there is no room for others
-pub fills_no_more : (bits more : List Bool) (old new : Pen) (before after : List ℕ) (why : PutFault) (out : Result (Unit {0}) PutFault) → out ≡ Err why → Fills {A = Unit {0}} bits old new before after (Err why) → Fills {A = Unit {0}} (bits ++ more) old new before after out
+-- bits after which there is no room for others
+pub fills_no_more : (bits more : List Bool) (old new : BitWriterState) (before after : List ℕ) (why : PutFault) (out : Result (Unit {0}) PutFault) → out ≡ Err why → Fills {A = Unit {0}} bits old new before after (Err why) → Fills {A = Unit {0}} (bits ++ more) old new before after out
 fills_no_more bits more old new before after why (Ok x) e one = absurd (cc)
 fills_no_more bits more old new before after why (Err other) e one =
     let same : other ≡ why = cc in
     record {
       full = λ done r f. past_with_more done bits more (length before) (one.full done r (sym (ap (λ (x : PutFault). Err x) same) ∙ f));
-      stands = tt;
+      holds = tt;
     }
 
 -- other words for the same bits
-pub fills_same : (bits more : List Bool) (old new : Pen) (before after : List ℕ) (out : Result (Unit {0}) PutFault) → bits ≡ more → Fills {A = Unit {0}} bits old new before after out → Fills {A = Unit {0}} more old new before after out
+pub fills_same : (bits more : List Bool) (old new : BitWriterState) (before after : List ℕ) (out : Result (Unit {0}) PutFault) → bits ≡ more → Fills {A = Unit {0}} bits old new before after out → Fills {A = Unit {0}} more old new before after out
 fills_same bits more old new before after out e one = let P : List Bool → Type 0 = λ l. Fills {A = Unit {0}} l old new before after out in subst P e one
 
 -- the bits of grids
 abbrev pub grids_bits : List values.Grid → List values.Block → List Bool
 grids_bits gs blocks = bits_of (header_pieces gs (least_choices blocks) blocks)
 
-pub grid_bits : (g : values.Grid) (gs : List values.Grid) (blocks : List values.Block) → grids_bits (g ∷ gs) blocks ≡ seats_bits g blocks (seats g) ++ grids_bits gs blocks
+pub grid_bits : (g : values.Grid) (gs : List values.Grid) (blocks : List values.Block) → grids_bits (g ∷ gs) blocks ≡ positions_bits g blocks (seats g) ++ grids_bits gs blocks
 grid_bits g gs blocks = flat_map-append piece_bits (flat_map (seat_pieces g (least_choices blocks) blocks) (seats g)) (header_pieces gs (least_choices blocks) blocks)
 
 -- some grids are put, and these follow
-pub record GridsPut (all rest : List values.Grid) (blocks waiting : List values.Block) (old new : Pen) (before after : List ℕ) : Type 0 where
+pub record GridsPut (all rest : List values.Grid) (blocks remaining : List values.Block) (old new : BitWriterState) (before after : List ℕ) : Type 0 where
   pub done : List Bool
   pub whole : grids_bits all blocks ≡ done ++ grids_bits rest blocks
   pub fills : Fills {A = Unit {0}} done old new before after (Ok tt)
-  pub waits : Waits blocks (flat_map seats rest) waiting
+  pub waits : Remain blocks (flat_map seats rest) remaining
 
 -- none of them
-pub no_grid_put : (all : List values.Grid) (blocks waiting : List values.Block) (w : Pen) (buf : List ℕ) → waiting ≡ blocks → AreBlocks all blocks → GridsPut all all blocks waiting w w buf buf
-no_grid_put all blocks waiting w buf e are =
-    let P : List values.Block → Type 0 = λ l. Waits blocks (flat_map seats all) l in
+pub no_grid_put : (all : List values.Grid) (blocks remaining : List values.Block) (w : BitWriterState) (buf : List ℕ) → remaining ≡ blocks → AreBlocks all blocks → GridsPut all all blocks remaining w w buf buf
+no_grid_put all blocks remaining w buf e are =
+    let P : List values.Block → Type 0 = λ l. Remain blocks (flat_map seats all) l in
     record { done = []; whole = refl; fills = fills_none w buf; waits = subst P (sym e) (record { front = []; whole = refl; seated = are.seated }) }
 
 -- one grid more
-pub next_grid_put : (all more : List values.Grid) (g : values.Grid) (blocks waiting left : List values.Block) (old mid new : Pen) (before between after : List ℕ) → length between ≡ length before
-    → GridsPut all (g ∷ more) blocks waiting old mid before between → ((rest : List Seat) → Waits blocks (seats g ++ rest) waiting → GridPut g blocks rest left mid new between after (Ok tt)) → GridsPut all more blocks left old new before after
-next_grid_put all more g blocks waiting left old mid new before between after same a put =
+pub next_grid_put : (all more : List values.Grid) (g : values.Grid) (blocks remaining left : List values.Block) (old mid new : BitWriterState) (before between after : List ℕ) → length between ≡ length before
+    → GridsPut all (g ∷ more) blocks remaining old mid before between → ((rest : List Seat) → Remain blocks (seats g ++ rest) remaining → GridPut g blocks rest left mid new between after (Ok tt)) → GridsPut all more blocks left old new before after
+next_grid_put all more g blocks remaining left old mid new before between after same a put =
     let b = put (flat_map seats more) a.waits in
     record {
-      done = a.done ++ seats_bits g blocks (seats g);
-      whole = a.whole ∙ (ap (λ (l : List Bool). a.done ++ l) (grid_bits g more blocks) ∙ sym (append_assoc a.done (seats_bits g blocks (seats g)) (grids_bits more blocks)));
-      fills = fills_behind a.done (seats_bits g blocks (seats g)) old mid new before between after tt (Ok tt) same a.fills b.bits;
+      done = a.done ++ positions_bits g blocks (seats g);
+      whole = a.whole ∙ (ap (λ (l : List Bool). a.done ++ l) (grid_bits g more blocks) ∙ sym (append_assoc a.done (positions_bits g blocks (seats g)) (grids_bits more blocks)));
+      fills = fills_behind a.done (positions_bits g blocks (seats g)) old mid new before between after tt (Ok tt) same a.fills b.bits;
       waits = b.waits;
     }
 
 -- or there is no room for it
-pub next_grid_full : (all more : List values.Grid) (g : values.Grid) (blocks waiting left : List values.Block) (old mid new : Pen) (before between after : List ℕ) (why : PutFault) (out : Result (Unit {0}) PutFault) → out ≡ Err why → length between ≡ length before
-    → GridsPut all (g ∷ more) blocks waiting old mid before between → ((rest : List Seat) → Waits blocks (seats g ++ rest) waiting → GridPut g blocks rest left mid new between after (Err why)) → Fills {A = Unit {0}} (grids_bits all blocks) old new before after out
-next_grid_full all more g blocks waiting left old mid new before between after why out e same a put =
+pub next_grid_full : (all more : List values.Grid) (g : values.Grid) (blocks remaining left : List values.Block) (old mid new : BitWriterState) (before between after : List ℕ) (why : PutFault) (out : Result (Unit {0}) PutFault) → out ≡ Err why → length between ≡ length before
+    → GridsPut all (g ∷ more) blocks remaining old mid before between → ((rest : List Seat) → Remain blocks (seats g ++ rest) remaining → GridPut g blocks rest left mid new between after (Err why)) → Fills {A = Unit {0}} (grids_bits all blocks) old new before after out
+next_grid_full all more g blocks remaining left old mid new before between after why out e same a put =
     let b = put (flat_map seats more) a.waits in
-    let own = seats_bits g blocks (seats g) in
+    let own = positions_bits g blocks (seats g) in
     fills_same (a.done ++ (own ++ grids_bits more blocks)) (grids_bits all blocks) old new before after out (sym (a.whole ∙ ap (λ (l : List Bool). a.done ++ l) (grid_bits g more blocks)))
     (fills_behind a.done (own ++ grids_bits more blocks) old mid new before between after tt out same a.fills (fills_no_more own (grids_bits more blocks) mid new between after why out e b.bits))
 
 -- all grids
-pub all_grids_put : (all : List values.Grid) (blocks waiting : List values.Block) (old new : Pen) (before after : List ℕ) → GridsPut all [] blocks waiting old new before after → Fills {A = Unit {0}} (grids_bits all blocks) old new before after (Ok tt)
-all_grids_put all blocks waiting old new before after a = fills_same a.done (grids_bits all blocks) old new before after (Ok tt) (sym (a.whole ∙ append-nil a.done)) a.fills
+pub all_grids_put : (all : List values.Grid) (blocks remaining : List values.Block) (old new : BitWriterState) (before after : List ℕ) → GridsPut all [] blocks remaining old new before after → Fills {A = Unit {0}} (grids_bits all blocks) old new before after (Ok tt)
+all_grids_put all blocks remaining old new before after a = fills_same a.done (grids_bits all blocks) old new before after (Ok tt) (sym (a.whole ∙ append-nil a.done)) a.fills
 
 -- the bits of a header, by whether a code-block is included
 pub bits_of_none : (gs : List values.Grid) (blocks : List values.Block) → length blocks ≡ 0 → false ∷ [] ≡ written_bits gs blocks
@@ -155,15 +155,15 @@ written_says gs blocks n bytes bands are e within short =
       short = omega arith;
     }
 
--- behind a fault nothing is said
+-- after a fault nothing is said
 pub err_waits : {A : Type 0} (P : A → Type 0) (out : Result A PutFault) → IsErr out → IfOk out P
 err_waits P (Ok x) is = absurd (cc)
 err_waits P (Err e) is = tt
 
--- bits behind those for which there was no room
-pub fills_more : (bits more : List Bool) (old new : Pen) (before after : List ℕ) (out : Result (Unit {0}) PutFault) → IsErr out → Fills {A = Unit {0}} bits old new before after out → Fills {A = Unit {0}} (bits ++ more) old new before after out
+-- bits after those for which there was no room
+pub fills_more : (bits more : List Bool) (old new : BitWriterState) (before after : List ℕ) (out : Result (Unit {0}) PutFault) → IsErr out → Fills {A = Unit {0}} bits old new before after out → Fills {A = Unit {0}} (bits ++ more) old new before after out
 fills_more bits more old new before after (Ok x) is one = absurd (cc)
-fills_more bits more old new before after (Err other) is one = record { full = λ done r f. past_with_more done bits more (length before) (one.full done r f); stands = tt }
+fills_more bits more old new before after (Err other) is one = record { full = λ done r f. past_with_more done bits more (length before) (one.full done r f); holds = tt }
 
 -- a list that isn't empty
 pub some_left : {X Y : Type 0} (f : X → Y) (xs : List X) → false ≡ (length xs == 0) → length (map f xs) ≢ 0
@@ -171,15 +171,15 @@ some_left f [] e = absurd (cc)
 some_left f (x ∷ xs) e = λ z. omega arith
 
 -- the bytes of a header that there was no room for, or that were written
-pub header_full : (gs : List values.Grid) (blocks : List values.Block) (old new : Pen) (before after : List ℕ) (why : PutFault) → ((buf : List ℕ) → HasWritten [] buf old)
+pub header_full : (gs : List values.Grid) (blocks : List values.Block) (old new : BitWriterState) (before after : List ℕ) (why : PutFault) → ((buf : List ℕ) → HasWritten [] buf old)
     → Fills {A = Unit {0}} (written_bits gs blocks) old new before after (Err why) → why ≡ fault.Full → length before < length (written_header gs blocks)
 header_full gs blocks old new before after why none f e =
     let far : length before < reach (written_bits gs blocks) = f.full [] (none before) (ap (λ (x : PutFault). Err x) e) in
     omega (arith, far, reach_within (written_bits gs blocks))
 
-pub header_stands : (gs : List values.Grid) (blocks : List values.Block) (old new : Pen) (before after : List ℕ) (x : Unit {0}) → ((buf : List ℕ) → HasWritten [] buf old)
+pub header_stands : (gs : List values.Grid) (blocks : List values.Block) (old new : BitWriterState) (before after : List ℕ) (x : Unit {0}) → ((buf : List ℕ) → HasWritten [] buf old)
     → Fills {A = Unit {0}} (written_bits gs blocks) old new before after (Ok x) → HasWritten (written_bits gs blocks) after new
-header_stands gs blocks old new before after x none f = f.stands [] (none before)
+header_stands gs blocks old new before after x none f = f.holds [] (none before)
 
 -- as many bytes as a header has
 pub header_size : (n : ℕ) (bytes header : List ℕ) → take n bytes ≡ header → n ≤ length bytes → n ≡ length header
@@ -188,8 +188,8 @@ header_size n bytes header e within =
     let same : length (take n bytes) ≡ length header = ap length e in
     omega arith
 
--- the bytes behind a header are as they were
-pub header_behind : (bits : List Bool) (before between after : List ℕ) (w : Pen) (n : ℕ) → 0 < w.len → HasWritten bits between w → take n after ≡ packing bits → n ≤ length after
+-- the bytes after a header are as they were
+pub header_behind : (bits : List Bool) (before between after : List ℕ) (w : BitWriterState) (n : ℕ) → 0 < w.len → HasWritten bits between w → take n after ≡ packing bits → n ≤ length after
     → drop w.len between ≡ drop w.len before → drop n after ≡ drop n between → drop n after ≡ drop n before
 header_behind bits before between after w n some r e within a b =
     let far : w.len ≤ n = omega (arith, reach_is bits between w some r, reach_within bits, header_size n after (packing bits) e within) in

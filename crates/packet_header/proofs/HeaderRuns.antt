@@ -1,8 +1,8 @@
 -- A header, read at the front of bytes.
-use Rattle.std.proofs.Common.{◌≡◌, ◌≤◌, ◌<◌, ◌-◌, ℕ, suc, min, Bool, true, false, List, [], ◌∷◌, ◌++◌, map, length, take, drop, slice_index, Option, Some, None, Result, Err, refl, sym, ◌∙◌, ap, subst, inl, inr, arith}
+use Rattle.std.proofs.Common.{◌≡◌, ◌≤◌, ◌<◌, ◌-◌, ℕ, suc, min, Bool, true, false, List, [], ◌∷◌, ◌++◌, map, length, take, drop, slice_index, Option, Some, None, Result, refl, sym, ◌∙◌, ap, subst, inl, inr, arith}
 use Rattle.std.proofs.lemmas.Bool.{le-ltb, lt-ltb}
 use Rattle.std.proofs.lemmas.Bool.Decides.{leb_tells, eqb_tells}
-use Rattle.std.proofs.lemmas.List.{length-append, length-take, length-drop, take-append-drop, take_all}
+use Rattle.std.proofs.lemmas.List.{length-append, length-take, take-append-drop, take_all}
 use Rattle.codestream_model.specs.Values as values
 use Rattle.codestream_model.specs.StuffedBits.{number_bits, width_after, carried_after, carried, sound_after, packed_bits, bytes_of_bits}
 use Rattle.codestream_model.specs.HeaderPieces.{HeaderRefusal, Stuffed, ZeroPlanes, Passes, LengthBits, CleanupShort, CleanupLong, RefineLong, TooLong, NoEph}
@@ -21,7 +21,7 @@ use Rattle.packet_header.specs.declared.refusal.HeaderWhy.{HeaderWhy}
 use Rattle.packet_header.specs.declared.refusal.HeaderWhy.TheVariants as reason
 use Rattle.packet_header.specs.declared.refusal.HeaderOut.{HeaderOut}
 use Rattle.packet_header.specs.declared.refusal.HeaderOut.TheVariants as out
-use Rattle.packet_header.specs.declared.refusal.Stop.{Stop}
+use Rattle.packet_header.specs.declared.refusal.HeaderStop.{HeaderStop}
 use Rattle.packet_header.proofs.Closings.{item_of_front}
 
 -- what is read of a header takes a bit
@@ -51,7 +51,7 @@ reach_within before n (b ∷ bytes) = elim (leb_tells n (width_after before)) [
   | inr t ↦ rw t.0 (omega (arith, reach_within b (n - width_after before) bytes))
 ]
 
--- the answer where a byte is wanted behind what is read
+-- the answer where a byte is wanted after what is read
 end_tells : (o : Option ℕ) (size : ℕ) (now : List Block) → Tells (end_by o size) (out_at size (stop_at o)) now
 end_tells (Some place) size now = refl
 end_tells None size now = elim (leb_tells 65536 size) [
@@ -91,7 +91,7 @@ read_count gs front blocks rest bands e =
     (omega (arith, less), omega (arith, less, size))
 
 -- the answer for all of the bytes, by what is read of their first 65,536
-tells_by : (r : Read (List values.Block)) (gs : List values.Grid) (bytes : List ℕ) (now : List Block) (got : Result ℕ Stop) → HaveOwnBands gs → read_bits gs (packed_bits (take 65536 bytes)).bits ≡ r
+tells_by : (r : Read (List values.Block)) (gs : List values.Grid) (bytes : List ℕ) (now : List Block) (got : Result ℕ HeaderStop) → HaveOwnBands gs → read_bits gs (packed_bits (take 65536 bytes)).bits ≡ r
     → ReadsHeader r (take 65536 bytes) [] now got → Tells (answer_of bytes r) (out_of (length bytes) got) now
 tells_by (Got blocks rest) gs bytes now got bands e a =
     let front = take 65536 bytes in
@@ -104,12 +104,12 @@ tells_by (Got blocks rest) gs bytes now got bands e a =
 tells_by AtEnd gs bytes now got bands e a = rw a (end_tells (packed_bits (take 65536 bytes)).broken_at (length bytes) now)
 tells_by (Refused why) gs bytes now got bands e a = rw a refl
 
-pub tells : (gs : List values.Grid) (bytes : List ℕ) (now : List Block) (got : Result ℕ Stop) → HaveOwnBands gs → ReadsHeader (read_bits gs (packed_bits (take 65536 bytes)).bits) (take 65536 bytes) [] now got
+pub tells : (gs : List values.Grid) (bytes : List ℕ) (now : List Block) (got : Result ℕ HeaderStop) → HaveOwnBands gs → ReadsHeader (read_bits gs (packed_bits (take 65536 bytes)).bits) (take 65536 bytes) [] now got
     → Tells (header_of gs bytes) (out_of (length bytes) got) now
 unfolding header_of
 tells gs bytes now got bands a = tells_by (read_bits gs (packed_bits (take 65536 bytes)).bits) gs bytes now got bands refl a
 
--- the first bytes, at most so many
+-- the first bytes, at most n
 pub first_bytes : (bytes : List ℕ) (n m : ℕ) → m ≡ min (length bytes) n → take m bytes ≡ take n bytes
 first_bytes bytes n m e = elim (leb_tells (length bytes) n) [
   | inl t ↦ let f : m ≡ length bytes = omega (arith, t.1) in ap (λ (k : ℕ). take k bytes) f ∙ (take_all (length bytes) bytes (omega arith) ∙ sym (take_all n bytes t.1))
@@ -163,7 +163,7 @@ told_refusal (Bad other) answer now why a e =
 pub refusal_told : (r : HeaderReading) (answer : HeaderOut) (now : List Block) (why : HeaderRefusal) → Tells r answer now → r ≡ Bad why → answer ≡ out.Bad (why_of why)
 refusal_told r answer now why a e = let P : HeaderReading → Type 0 = λ x. Tells x answer now in subst P e a
 
--- and so it is with want of bytes
+-- and so it is with missing bytes
 pub told_need : (r : HeaderReading) (answer : HeaderOut) (now : List Block) → Tells r answer now → answer ≡ out.Need → r ≡ Need
 told_need (Done n blocks) answer now a e = absurd (let f : out.Done n ≡ out.Need = sym a.0 ∙ e in cc)
 told_need Need answer now a e = refl

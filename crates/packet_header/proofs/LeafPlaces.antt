@@ -10,10 +10,10 @@ use Rattle.codestream_model.specs.HeaderPieces.{stands_at}
 use Rattle.codestream_model.specs.PacketHeader.{is_included, IsWithinLimits}
 use Rattle.codestream_model.proofs.TreeLemmas.{either, same_number, among_all}
 use Rattle.codestream_model.proofs.SeatLemmas.{all-append, all-behind, all-map, stands_here}
-use Rattle.tag_tree.specs.Grove.{Grove}
+use Rattle.tag_tree.specs.TreeState.{TreeState}
 use Rattle.tag_tree.specs.LeafWriting.{IsOn}
 use Rattle.tag_tree.proofs.LabelLemmas.{AreLeaves, each_both, holds_inclusion, holds_planes}
-use Rattle.packet_header.specs.SeatsWritten.{SitsOn, leaf_place, laid, LaysOut, IsFilled, AreWritten}
+use Rattle.packet_header.specs.PositionsWritten.{AreOnGrid, leaf_place, laid, LaysOut, IsFilled, AreWritten}
 use Rattle.packet_header.specs.declared.grids.TagTrees.{TagTrees}
 
 -- numbers that differ are in an order
@@ -65,7 +65,7 @@ next_row cols a b h =
     let up : (a + 1) * cols ≤ b * cols = mul-le-mul_right cols (omega arith) in
     omega arith
 
--- a leaf stands among those of the grid
+-- a leaf is among those of the grid
 pub place_in : (g : values.Grid) (s : Seat) → IsSeat g s → leaf_place g s < g.cols * g.rows
 place_in g s i = omega (arith, next_row g.cols s.row g.rows i.row, i.col)
 
@@ -89,7 +89,7 @@ same_place g s t i j e =
     let f : t.row * g.cols + s.col ≡ t.row * g.cols + t.col = subst P row e in
     (omega arith, row)
 
--- a code-block at a seat's column and row, in its band, stands there
+-- a code-block at a position's column and row, in its band, is there
 stands_if_same : (s : Seat) (b : values.Block) → b.band ≡ s.band → b.col ≡ s.col → b.row ≡ s.row → stands_at s b ≡ true
 stands_if_same s b e c r = rw (e, c, r, same_number s.band, same_number s.col, same_number s.row) refl
 
@@ -124,8 +124,8 @@ laid_here g done b leaves value other e i on fresh l =
           (λ x there was f.
           let other_place : leaf_place g (seat_of x) ≢ p = λ q.
           (let same = same_place g (seat_of x) (seat_of b) (there.0 f) i q in
-          let stands : stands_at (seat_of b) x ≡ true = stands_if_same (seat_of b) x (f ∙ sym e) same.0 same.1 in
-          let no : true ≡ false = sym stands ∙ there.1 in
+          let holds : stands_at (seat_of b) x ≡ true = stands_if_same (seat_of b) x (f ∙ sym e) same.0 same.1 in
+          let no : true ≡ false = sym holds ∙ there.1 in
           absurd (cc)) in
           get_or-set_other leaves p (leaf_place g (seat_of x)) (value b) 0 other_place ∙ was f)
           (each_both (λ x. x.band ≡ g.band → IsSeat g (seat_of x)) (λ x. stands_at (seat_of b) x ≡ false) (λ x. (x.band ≡ g.band → IsSeat g (seat_of x)) × (stands_at (seat_of b) x ≡ false)) done (λ x a f. (a, f)) on fresh)
@@ -135,42 +135,42 @@ laid_here g done b leaves value other e i on fresh l =
           let elsewhere : stands_at s b ≡ false = last_fails (stands_at s) done b out in
           let other_place : leaf_place g s ≢ p = λ q.
           (let same = same_place g s (seat_of b) j i q in
-          let stands : stands_at s b ≡ true = stands_if_same s b (e ∙ sym j.band) (sym same.0) (sym same.1) in
-          let no : true ≡ false = sym stands ∙ elsewhere in
+          let holds : stands_at s b ≡ true = stands_if_same s b (e ∙ sym j.band) (sym same.0) (sym same.1) in
+          let no : true ≡ false = sym holds ∙ elsewhere in
           absurd (cc)) in
           get_or-set_other leaves p (leaf_place g s) (value b) 0 other_place ∙ l.others s j (fewer (stands_at s) done b out);
     }
 
 -- one code-block more
-pub laid_more : (g : values.Grid) (done rest : List values.Block) (b : values.Block) (leaves : List ℕ) (value : values.Block → ℕ) (other : ℕ) → SitsOn g (done ++ b ∷ rest)
+pub laid_more : (g : values.Grid) (done rest : List values.Block) (b : values.Block) (leaves : List ℕ) (value : values.Block → ℕ) (other : ℕ) → AreOnGrid g (done ++ b ∷ rest)
     → LaysOut g done leaves value other → LaysOut g (done ++ b ∷ []) (laid g b (value b) leaves) value other
-laid_more g done rest b leaves value other sits l = elim (eqb_tells b.band g.band) [
+laid_more g done rest b leaves value other on_grid l = elim (eqb_tells b.band g.band) [
   | inr t ↦ let ne : b.band ≢ g.band = t.1 in rw t.0 (laid_elsewhere g done b leaves value other ne l)
   | inl t ↦
-      let on = all-behind (λ x. x.band ≡ g.band → IsSeat g (seat_of x)) done (b ∷ rest) sits.own_band in
-      let alone = among_all (λ x. filter (stands_at (seat_of x)) (done ++ b ∷ rest) ≡ x ∷ []) done b rest sits.alone in
+      let on = all-behind (λ x. x.band ≡ g.band → IsSeat g (seat_of x)) done (b ∷ rest) on_grid.own_band in
+      let alone = among_all (λ x. filter (stands_at (seat_of x)) (done ++ b ∷ rest) ≡ x ∷ []) done b rest on_grid.alone in
       let fresh = none_before (stands_at (seat_of b)) done b rest (stands_here b) alone in
       rw t.0 (laid_here g done b leaves value other t.1 (on.1.0 t.1) on.0 fresh l)
 ]
 
 -- the leaves as those of a tree
-tree_leaves : (g : values.Grid) (t : Grove) (blocks : List values.Block) (leaves : List ℕ) (value : values.Block → ℕ) (other : ℕ) → SitsOn g blocks → LaysOut g blocks leaves value other → IsFilled g leaves t → AreLeaves t leaves blocks g.band value other
-tree_leaves g t blocks leaves value other sits l f =
+tree_leaves : (g : values.Grid) (t : TreeState) (blocks : List values.Block) (leaves : List ℕ) (value : values.Block → ℕ) (other : ℕ) → AreOnGrid g blocks → LaysOut g blocks leaves value other → IsFilled g leaves t → AreLeaves t leaves blocks g.band value other
+tree_leaves g t blocks leaves value other on_grid l f =
     let P : ℕ → Type 0 = λ n. AllByRecursion (λ b. b.band ≡ g.band → slice_index leaves (b.row * n + b.col) ≡ value b) blocks in
     let Q : ℕ → Type 0 = λ n. (s : Seat) → IsOn t s → s.band ≡ g.band → is_included blocks s ≡ false → slice_index leaves (s.row * n + s.col) ≡ other in
     record {
       on = all-map (λ b. b.band ≡ g.band → IsSeat g (seat_of b)) (λ b. b.band ≡ g.band → IsOn t (seat_of b)) blocks
-          (λ b i e. let s = i e in record { col = rw f.cols s.col; row = rw f.rows s.row }) sits.own_band;
+          (λ b i e. let s = i e in record { col = rw f.cols s.col; row = rw f.rows s.row }) on_grid.own_band;
       included = subst P (sym f.cols) l.included;
       others = subst Q (sym f.cols) (λ s on e out. l.others s (record { band = e; col = rw f.cols at on.col; row = rw f.rows at on.row }) out);
     }
 
 -- both trees of a grid
-pub trees_filled : (g : values.Grid) (t : TagTrees) (blocks : List values.Block) (inclusion planes : List ℕ) → SitsOn g blocks
+pub trees_filled : (g : values.Grid) (t : TagTrees) (blocks : List values.Block) (inclusion planes : List ℕ) → AreOnGrid g blocks
     → LaysOut g blocks inclusion (λ b. 0) 1 → LaysOut g blocks planes (λ b. b.planes) 74 → IsFilled g inclusion t.inclusion → IsFilled g planes t.planes → AreWritten g blocks [] t
-trees_filled g t blocks inclusion planes sits a b f h = record {
-  inclusion = holds_inclusion t.inclusion inclusion blocks g.band (tree_leaves g t.inclusion blocks inclusion (λ x. 0) 1 sits a f) f.least;
-  planes = holds_planes t.planes planes blocks g.band (tree_leaves g t.planes blocks planes (λ x. x.planes) 74 sits b h) (all-map IsWithinLimits (λ x. x.planes ≤ 74) blocks (λ x w. w.planes) sits.limits) h.least;
+trees_filled g t blocks inclusion planes on_grid a b f h = record {
+  inclusion = holds_inclusion t.inclusion inclusion blocks g.band (tree_leaves g t.inclusion blocks inclusion (λ x. 0) 1 on_grid a f) f.least;
+  planes = holds_planes t.planes planes blocks g.band (tree_leaves g t.planes blocks planes (λ x. x.planes) 74 on_grid b h) (all-map IsWithinLimits (λ x. x.planes ≤ 74) blocks (λ x w. w.planes) on_grid.limits) h.least;
   met = f.unmet;
   met_planes = h.unmet;
 }

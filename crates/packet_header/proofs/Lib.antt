@@ -2,8 +2,8 @@ pub mod Sources
 pub mod Moving
 pub mod BlockValues
 pub mod LeafMoves
-pub mod SeatMoves
-pub mod SeatRuns
+pub mod PositionMoves
+pub mod PositionRuns
 pub mod WalkMoves
 pub mod GridRuns
 pub mod GridMoves
@@ -13,8 +13,8 @@ pub mod Feeds
 pub mod Markers
 pub mod PutSteps
 pub mod Widths
-pub mod SeatWalks
-pub mod SeatPuts
+pub mod PositionWalks
+pub mod PositionPuts
 pub mod LeafPlaces
-pub mod Sitting
+pub mod OnGrid
 pub mod GridPuts

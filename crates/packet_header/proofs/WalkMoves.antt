@@ -1,5 +1,5 @@
--- The seats of a grid, one after another.
-use Rattle.std.proofs.Common.{◌≡◌, ◌<◌, ◌≤◌, ◌+◌, ◌-◌, ◌++◌, ℕ, zero, suc, Bool, true, false, List, [], ◌∷◌, map, length, nat_lt, Result, Ok, Err, refl, sym, ◌∙◌, ap, subst, inl, inr, arith, append_assoc}
+-- The positions of a grid, one after another.
+use Rattle.std.proofs.Common.{◌≡◌, ◌<◌, ◌≤◌, ◌+◌, ◌-◌, ◌++◌, ℕ, zero, suc, Bool, true, false, List, [], ◌∷◌, map, nat_lt, Err, refl, sym, ◌∙◌, ap, subst, inl, inr, arith, append_assoc}
 use Rattle.std.specs.List.{flat_map, range_with_len}
 use Rattle.std.proofs.lemmas.Bool.{le-leb, lt-leb}
 use Rattle.std.proofs.lemmas.Bool.Decides.{leb_tells}
@@ -7,21 +7,20 @@ use Rattle.std.proofs.lemmas.List.{append-nil, map-append}
 use Rattle.codestream_model.specs.Values as values
 use Rattle.codestream_model.specs.StuffedBits.{packed_bits}
 use Rattle.codestream_model.specs.TagTrees.{Seat, seats}
-use Rattle.codestream_model.specs.PacketHeaderReading.{Read, Got, AtEnd, Refused, Node, and_then, read_seats}
+use Rattle.codestream_model.specs.PacketHeaderReading.{Read, Got, AtEnd, Refused, Node, read_seats}
 use Rattle.packet_header.specs.Answers.{block_of}
-use Rattle.packet_header.specs.Moves.{StandsAt, all_of, behind, IsStop}
-use Rattle.packet_header.specs.Seats.{KnowsBoth, seat_rest, ahead, SeatRead, ReadsSeat}
-use Rattle.packet_header.specs.Walks.{walk_rest, row_from, seats_from, WalkWent, Walks}
+use Rattle.packet_header.specs.Moves.{HasGiven, all_of, bits_after, IsStop}
+use Rattle.packet_header.specs.Positions.{KnowsBoth, rest_at, ahead, ReadAt, ReadsAt}
+use Rattle.packet_header.specs.Walks.{walk_rest, positions_from, WalkWent, Walks}
 use Rattle.packet_header.specs.declared.block.Block.{Block}
-use Rattle.packet_header.specs.declared.source.Source.{Source}
+use Rattle.stuffed_bits.specs.declared.source.Source.{Source}
 use Rattle.packet_header.specs.declared.grids.TagTrees.{TagTrees}
 use Rattle.packet_header.specs.declared.step.Step.{Step}
 use Rattle.packet_header.specs.declared.step.Step.TheVariants.{Inclusion}
-use Rattle.packet_header.specs.declared.refusal.Stop.{Stop}
-use Rattle.packet_header.specs.declared.refusal.Stop.TheVariants.{Need}
+use Rattle.packet_header.specs.declared.refusal.HeaderStop.{HeaderStop}
 use Rattle.packet_header.proofs.Moving.{same_stop, stops_then, left_behind}
 
--- before the first step of the first seat
+-- before the first step of the first position
 pub walk_begins : (levels : List ℕ) (left : List Seat) (nodes others : List Node) (l : List Bool) → read_seats levels left nodes others l ≡ walk_rest levels left nodes others Inclusion l
 unfolding read_seats
 walk_begins levels [] nodes others l = refl
@@ -38,17 +37,17 @@ none_ahead (Got x l) = refl
 none_ahead AtEnd = refl
 none_ahead (Refused why) = refl
 
--- a seat, and then the further ones
-pub walk_seat : (levels : List ℕ) (s : Seat) (more : List Seat) (nodes others : List Node) (t : TagTrees) (step : Step) (before : List ℕ) (done : List Bool) (new : Source) (held now : List Block) → SeatRead levels s nodes others t step before done new held now
+-- a position, and then the further ones
+pub walk_at : (levels : List ℕ) (s : Seat) (more : List Seat) (nodes others : List Node) (t : TagTrees) (step : Step) (before : List ℕ) (done : List Bool) (new : Source) (held now : List Block) → ReadAt levels s nodes others t step before done new held now
     → WalkWent levels (s ∷ more) more nodes others t step Inclusion before done new held now
-walk_seat levels s more nodes others t step before done new held now r = record {
+walk_at levels s more nodes others t step before done new held now r = record {
   known = r.known;
   known_others = r.known_others;
   knows = r.knows;
   added = r.added;
   grown = r.grown;
   bits = r.bits;
-  stands = r.stands;
+  holds = r.holds;
   goes_on = λ further. r.goes_on more further ∙ ap (ahead (map block_of r.added)) (walk_begins levels more r.known r.known_others further);
 }
 
@@ -57,7 +56,7 @@ pub walk_on : (levels : List ℕ) (left mid_left now_left : List Seat) (nodes ot
     → (w : WalkWent levels left mid_left nodes others t step mid_step before done mid held mid_held) → WalkWent levels mid_left now_left w.known w.known_others u mid_step at before (done ++ w.bits) new mid_held now
     → WalkWent levels left now_left nodes others u step at before done new held now
 walk_on levels left mid_left now_left nodes others t u step mid_step at before done mid new held mid_held now w r =
-    let P : List Bool → Type 0 = λ l. StandsAt before l new in
+    let P : List Bool → Type 0 = λ l. HasGiven before l new in
     let rest : List Bool → Read (List values.Block) = λ l. walk_rest levels now_left r.known r.known_others at l in
     record {
       known = r.known;
@@ -66,7 +65,7 @@ walk_on levels left mid_left now_left nodes others t u step mid_step at before d
       added = w.added ++ r.added;
       grown = r.grown ∙ (ap (λ (l : List Block). l ++ r.added) w.grown ∙ append_assoc held w.added r.added);
       bits = w.bits ++ r.bits;
-      stands = subst P (append_assoc done w.bits r.bits) r.stands;
+      holds = subst P (append_assoc done w.bits r.bits) r.holds;
       goes_on = λ further.
           ap (walk_rest levels left nodes others step) (append_assoc w.bits r.bits further)
           ∙ (w.goes_on (r.bits ++ further)
@@ -75,25 +74,25 @@ walk_on levels left mid_left now_left nodes others t u step mid_step at before d
     }
 
 -- and one that stops
-pub walk_stops : (levels : List ℕ) (left mid_left now_left : List Seat) (nodes others : List Node) (t u : TagTrees) (step mid_step at : Step) (before : List ℕ) (done : List Bool) (old mid new : Source) (held mid_held now : List Block) (stopped : Stop) → mid.piece.now ≡ old.piece.now
+pub walk_stops : (levels : List ℕ) (left mid_left now_left : List Seat) (nodes others : List Node) (t u : TagTrees) (step mid_step at : Step) (before : List ℕ) (done : List Bool) (old mid new : Source) (held mid_held now : List Block) (stopped : HeaderStop) → mid.piece.now ≡ old.piece.now
     → (w : WalkWent levels left mid_left nodes others t step mid_step before done mid held mid_held) → Walks levels mid_left now_left w.known w.known_others u mid_step at before (done ++ w.bits) mid new mid_held now (Err stopped)
     → Walks levels left now_left nodes others u step at before done old new held now (Err stopped)
 unfolding walk_on
 walk_stops levels left mid_left now_left nodes others t u step mid_step at before done old mid new held mid_held now stopped same w r =
-    let l = behind done (all_of before old) in
-    let m = behind (done ++ w.bits) (all_of before mid) in
+    let l = bits_after done (all_of before old) in
+    let m = bits_after (done ++ w.bits) (all_of before mid) in
     let inner = walk_rest levels mid_left w.known w.known_others mid_step m in
-    let e : walk_rest levels left nodes others step l ≡ ahead (map block_of w.added) inner = ap (walk_rest levels left nodes others step) (left_behind before done w.bits old mid same w.stands) ∙ w.goes_on m in
+    let e : walk_rest levels left nodes others step l ≡ ahead (map block_of w.added) inner = ap (walk_rest levels left nodes others step) (left_behind before done w.bits old mid same w.holds) ∙ w.goes_on m in
     let Q : List ℕ → Type 0 = λ k. IsStop inner (packed_bits (before ++ k)).broken_at stopped in
     let broken = (packed_bits (all_of before old)).broken_at in (
       same_stop (walk_rest levels left nodes others step l) (ahead (map block_of w.added) inner) broken stopped e (stops_then inner (λ xs k. Got (map block_of w.added ++ xs) k) broken stopped (subst Q same r.0)),
       λ n. let q = r.1 n in (q.0, (walk_on levels left mid_left now_left nodes others t u step mid_step at before done mid new held mid_held now w q.1.0, q.1.1)),
     )
 
--- a seat's part of the walk that stops
-pub seat_stops : (levels : List ℕ) (s : Seat) (more : List Seat) (nodes others : List Node) (t : TagTrees) (step at : Step) (before : List ℕ) (done : List Bool) (old new : Source) (held now : List Block) (stopped : Stop)
-    → ReadsSeat levels s nodes others t step at before done old new held now (Err stopped) → Walks levels (s ∷ more) (s ∷ more) nodes others t step at before done old new held now (Err stopped)
-seat_stops levels s more nodes others t step at before done old new held now stopped r = (
+-- a position's part of the walk that stops
+pub stops_at : (levels : List ℕ) (s : Seat) (more : List Seat) (nodes others : List Node) (t : TagTrees) (step at : Step) (before : List ℕ) (done : List Bool) (old new : Source) (held now : List Block) (stopped : HeaderStop)
+    → ReadsAt levels s nodes others t step at before done old new held now (Err stopped) → Walks levels (s ∷ more) (s ∷ more) nodes others t step at before done old new held now (Err stopped)
+stops_at levels s more nodes others t step at before done old new held now stopped r = (
   r.0 more,
   λ n.
       let q = r.1 n in
@@ -107,23 +106,23 @@ seat_stops levels s more nodes others t step at before done old new held now sto
             added = [];
             grown = q.1 ∙ sym (append-nil held);
             bits = b.bits;
-            stands = b.stands;
-            goes_on = λ further. b.goes_on more further ∙ none_ahead (seat_rest levels s more b.known b.known_others at further);
+            holds = b.holds;
+            goes_on = λ further. b.goes_on more further ∙ none_ahead (rest_at levels s more b.known b.known_others at further);
           },
           b.unread,
         ),
       ),
 )
 
--- a seat and the next place in its row, or in the next row
-pub next_in_row : (g : values.Grid) (row col : ℕ) → row < g.rows → col + 1 < g.cols → seats_from g row col ≡ record { band = g.band; col = col; row = row } ∷ seats_from g row (col + 1)
+-- a position and the next place in its row, or in the next row
+pub next_in_row : (g : values.Grid) (row col : ℕ) → row < g.rows → col + 1 < g.cols → positions_from g row col ≡ record { band = g.band; col = col; row = row } ∷ positions_from g row (col + 1)
 next_in_row g row col h c =
     let t : nat_lt row g.rows ≡ true = le-leb (suc row) g.rows (omega arith) in
     let e : g.cols - col ≡ suc (g.cols - (col + 1)) = omega arith in
     rw (t, e) refl
 
 -- the rows after one
-rows_behind : (g : values.Grid) (row : ℕ) → flat_map (λ r. map (λ c. record { band = g.band; col = c; row = r }) (range_with_len 0 g.cols)) (range_with_len (row + 1) (g.rows - (row + 1))) ≡ seats_from g (row + 1) 0
+rows_behind : (g : values.Grid) (row : ℕ) → flat_map (λ r. map (λ c. record { band = g.band; col = c; row = r }) (range_with_len 0 g.cols)) (range_with_len (row + 1) (g.rows - (row + 1))) ≡ positions_from g (row + 1) 0
 rows_behind g row = elim (leb_tells (suc (row + 1)) g.rows) [
   | inl t ↦
       let d : g.rows - (row + 1) ≡ suc (g.rows - (row + 1 + 1)) = omega (arith, t.1) in
@@ -132,17 +131,17 @@ rows_behind g row = elim (leb_tells (suc (row + 1)) g.rows) [
   | inr t ↦ let d : g.rows - (row + 1) ≡ zero = omega (arith, t.1) in rw (t.0, d) refl
 ]
 
-pub next_row : (g : values.Grid) (row col : ℕ) → row < g.rows → col + 1 ≡ g.cols → seats_from g row col ≡ record { band = g.band; col = col; row = row } ∷ seats_from g (row + 1) 0
+pub next_row : (g : values.Grid) (row col : ℕ) → row < g.rows → col + 1 ≡ g.cols → positions_from g row col ≡ record { band = g.band; col = col; row = row } ∷ positions_from g (row + 1) 0
 next_row g row col h c =
     let t : nat_lt row g.rows ≡ true = le-leb (suc row) g.rows (omega arith) in
     let e : g.cols - col ≡ suc zero = omega arith in
     let s : Seat = record { band = g.band; col = col; row = row } in
-    let own : seats_from g row col ≡ s ∷ flat_map (λ r. map (λ c. record { band = g.band; col = c; row = r }) (range_with_len 0 g.cols)) (range_with_len (row + 1) (g.rows - (row + 1))) = rw (t, e) refl in
+    let own : positions_from g row col ≡ s ∷ flat_map (λ r. map (λ c. record { band = g.band; col = c; row = r }) (range_with_len 0 g.cols)) (range_with_len (row + 1) (g.rows - (row + 1))) = rw (t, e) refl in
     own ∙ ap (λ (l : List Seat). s ∷ l) (rows_behind g row)
 
--- all seats of a grid
-pub all_seats : (g : values.Grid) → seats g ≡ seats_from g 0 0
-all_seats g = elim (leb_tells (suc 0) g.rows) [
+-- all positions of a grid
+pub all_positions : (g : values.Grid) → seats g ≡ positions_from g 0 0
+all_positions g = elim (leb_tells (suc 0) g.rows) [
   | inl t ↦
       let d : g.rows ≡ suc (g.rows - (0 + 1)) = omega (arith, t.1) in
       let z : g.cols - 0 ≡ g.cols = omega arith in
@@ -152,14 +151,14 @@ all_seats g = elim (leb_tells (suc 0) g.rows) [
 ]
 
 -- no positions after the last row
-pub none_behind : (g : values.Grid) (row col : ℕ) → g.rows ≤ row → seats_from g row col ≡ []
+pub none_behind : (g : values.Grid) (row col : ℕ) → g.rows ≤ row → positions_from g row col ≡ []
 none_behind g row col h = let t : nat_lt row g.rows ≡ false = lt-leb (suc row) g.rows (omega arith) in rw t refl
 
--- no seat yet
-pub walk_none : (levels : List ℕ) (left : List Seat) (nodes others : List Node) (t : TagTrees) (step : Step) (before : List ℕ) (done : List Bool) (s : Source) (held : List Block) → KnowsBoth t nodes others → StandsAt before done s
+-- no position yet
+pub walk_none : (levels : List ℕ) (left : List Seat) (nodes others : List Node) (t : TagTrees) (step : Step) (before : List ℕ) (done : List Bool) (s : Source) (held : List Block) → KnowsBoth t nodes others → HasGiven before done s
     → WalkWent levels left left nodes others t step step before done s held held
 walk_none levels left nodes others t step before done s held k h =
-    let P : List Bool → Type 0 = λ l. StandsAt before l s in
+    let P : List Bool → Type 0 = λ l. HasGiven before l s in
     record {
       known = nodes;
       known_others = others;
@@ -167,25 +166,25 @@ walk_none levels left nodes others t step before done s held k h =
       added = [];
       grown = sym (append-nil held);
       bits = [];
-      stands = subst P (sym (append-nil done)) h;
+      holds = subst P (sym (append-nil done)) h;
       goes_on = λ further. none_ahead (walk_rest levels left nodes others step further);
     }
 
--- one seat more
+-- one position more
 pub walk_step : (levels : List ℕ) (s : Seat) (first left next : List Seat) (nodes others : List Node) (t u : TagTrees) (step mid_step at : Step) (before : List ℕ) (done : List Bool) (mid new : Source) (held mid_held now : List Block) → left ≡ s ∷ next → at ≡ Inclusion
-    → (w : WalkWent levels first left nodes others t step mid_step before done mid held mid_held) → SeatRead levels s w.known w.known_others u mid_step before (done ++ w.bits) new mid_held now
+    → (w : WalkWent levels first left nodes others t step mid_step before done mid held mid_held) → ReadAt levels s w.known w.known_others u mid_step before (done ++ w.bits) new mid_held now
     → WalkWent levels first next nodes others u step at before done new held now
 walk_step levels s first left next nodes others t u step mid_step at before done mid new held mid_held now e z w r =
     let P : List Seat → Type 0 = λ l. WalkWent levels l next w.known w.known_others u mid_step Inclusion before (done ++ w.bits) new mid_held now in
     let Q : Step → Type 0 = λ x. WalkWent levels first next nodes others u step x before done new held now in
     subst Q (sym z) (walk_on levels first left next nodes others t u step mid_step Inclusion before done mid new held mid_held now w
-    (subst P (sym e) (walk_seat levels s next w.known w.known_others u mid_step before (done ++ w.bits) new mid_held now r)))
+    (subst P (sym e) (walk_at levels s next w.known w.known_others u mid_step before (done ++ w.bits) new mid_held now r)))
 
--- one seat that stops
-pub walk_halts : (levels : List ℕ) (s : Seat) (first left next : List Seat) (nodes others : List Node) (t u : TagTrees) (step mid_step at : Step) (before : List ℕ) (done : List Bool) (old mid new : Source) (held mid_held now : List Block) (stopped : Stop) → left ≡ s ∷ next → mid.piece.now ≡ old.piece.now
-    → (w : WalkWent levels first left nodes others t step mid_step before done mid held mid_held) → ReadsSeat levels s w.known w.known_others u mid_step at before (done ++ w.bits) mid new mid_held now (Err stopped)
+-- one position that stops
+pub walk_halts : (levels : List ℕ) (s : Seat) (first left next : List Seat) (nodes others : List Node) (t u : TagTrees) (step mid_step at : Step) (before : List ℕ) (done : List Bool) (old mid new : Source) (held mid_held now : List Block) (stopped : HeaderStop) → left ≡ s ∷ next → mid.piece.now ≡ old.piece.now
+    → (w : WalkWent levels first left nodes others t step mid_step before done mid held mid_held) → ReadsAt levels s w.known w.known_others u mid_step at before (done ++ w.bits) mid new mid_held now (Err stopped)
     → Walks levels first left nodes others u step at before done old new held now (Err stopped)
 walk_halts levels s first left next nodes others t u step mid_step at before done old mid new held mid_held now stopped e same w r =
     let P : List Seat → Type 0 = λ l. Walks levels l l w.known w.known_others u mid_step at before (done ++ w.bits) mid new mid_held now (Err stopped) in
     walk_stops levels first left left nodes others t u step mid_step at before done old mid new held mid_held now stopped same w
-    (subst P (sym e) (seat_stops levels s next w.known w.known_others u mid_step at before (done ++ w.bits) mid new mid_held now stopped r))
+    (subst P (sym e) (stops_at levels s next w.known w.known_others u mid_step at before (done ++ w.bits) mid new mid_held now stopped r))

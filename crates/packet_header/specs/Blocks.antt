@@ -3,26 +3,26 @@ use Rattle.std.specs.Prelude.{◌≡◌, ◌<◌, ◌≤◌, ◌+◌, ◌++◌, 
 use Rattle.codestream_model.specs.Values as values
 use Rattle.codestream_model.specs.StuffedBits.{packed_bits}
 use Rattle.codestream_model.specs.Packet.{block_count}
-use Rattle.codestream_model.specs.TagTrees.{Seat, root_level, levels_from}
-use Rattle.codestream_model.specs.PacketHeaderReading.{Read, Got, and_then, Node, read_bit, read_either, read_grids}
+use Rattle.codestream_model.specs.TagTrees.{root_level, levels_from}
+use Rattle.codestream_model.specs.PacketHeaderReading.{Read, Got, and_then, Node, read_bit, read_bits, read_either, read_grids}
 use Rattle.precinct_geometry.specs.Spans.{grid_of}
 use Rattle.precinct_geometry.specs.declared.place.Grid.{Grid}
-use Rattle.stuffed_bits.specs.Hand.{Hand}
+use Rattle.stuffed_bits.specs.BitInState.{BitInState, IsFree}
 use Rattle.stuffed_bits.specs.BitsRead.{HasRead}
 use Rattle.stuffed_bits.specs.declared.part.Part.{Part}
 use Rattle.packet_header.specs.Answers.{block_of}
 use Rattle.packet_header.specs.Moves.{taken_of, all_of, IsStop}
 use Rattle.packet_header.specs.Steps.{Fits}
-use Rattle.packet_header.specs.Leaves.{levels_of}
-use Rattle.packet_header.specs.Seats.{KnowsBoth, HasGrid, IsUnread, ahead}
-use Rattle.packet_header.specs.Walks.{walk_rest, seats_from}
+use Rattle.tag_tree.specs.Kinds.{levels_of}
+use Rattle.packet_header.specs.Positions.{KnowsBoth, HasGrid, IsUnread, ahead}
+use Rattle.packet_header.specs.Walks.{walk_rest, positions_from}
 use Rattle.packet_header.specs.declared.blocks.BlocksReader.{BlocksReader}
 use Rattle.packet_header.specs.declared.grids.TagTrees.{TagTrees}
-use Rattle.packet_header.specs.declared.source.Source.{Source}
+use Rattle.stuffed_bits.specs.declared.source.Source.{Source}
 use Rattle.packet_header.specs.declared.step.Step.{Step}
 use Rattle.packet_header.specs.declared.step.Step.TheVariants.{Inclusion}
-use Rattle.packet_header.specs.declared.refusal.Stop.{Stop}
-use Rattle.packet_header.specs.declared.refusal.Stop.TheVariants.{Need}
+use Rattle.packet_header.specs.declared.refusal.HeaderStop.{HeaderStop}
+use Rattle.packet_header.specs.declared.refusal.HeaderStop.TheVariants.{Need}
 
 -- A reader has room for this many code-blocks.
 pub record HasRoom (room : ℕ) (r : BlocksReader) : Type 0 where
@@ -52,7 +52,7 @@ grid_and_more later own l = ahead own (read_grids later l)
 -- What is to be read of these grids, at a place and a step in the first of them, where its trees know these nodes.
 abbrev pub grids_rest : List values.Grid → ℕ → ℕ → Step → List Node → List Node → List Bool → Read (List values.Block)
 grids_rest [] row col step nodes others l = Got [] l
-grids_rest (g ∷ later) row col step nodes others l = and_then (walk_rest (levels_from (root_level g)) (seats_from g row col) nodes others step l) (grid_and_more later)
+grids_rest (g ∷ later) row col step nodes others l = and_then (walk_rest (levels_from (root_level g)) (positions_from g row col) nodes others step l) (grid_and_more later)
 
 -- What is to be read of a header whose grids are read so: its first bit says whether it has any code-block.
 abbrev pub header_rest : Bool → (List Bool → Read (List values.Block)) → List Bool → Read (List values.Block)
@@ -67,10 +67,10 @@ left_of r nodes others l = header_rest r.begun (grids_rest (grids_left r) r.row 
 pub record IsInGrid (g : values.Grid) (later : List values.Grid) (r : BlocksReader) : Type 0 where
   pub grid : HasGrid r.trees g.cols g.rows
   pub col_in : 0 < g.cols → r.col < g.cols
-  pub none : seats_from g r.row r.col ≡ [] → r.step ≡ Inclusion
+  pub none : positions_from g r.row r.col ≡ [] → r.step ≡ Inclusion
   pub inclusion : block_count later ≤ r.trees.inclusion.leaves
   pub planes : block_count later ≤ r.trees.planes.leaves
-  pub room : vec_len r.blocks + (length (seats_from g r.row r.col) + block_count later) ≤ vec_capacity r.blocks
+  pub room : vec_len r.blocks + (length (positions_from g r.row r.col) + block_count later) ≤ vec_capacity r.blocks
 
 -- A reader is in the first of these grids, or past the last.
 abbrev pub IsAmong : List values.Grid → BlocksReader → Type 0
@@ -84,7 +84,7 @@ IsNextUnread (g ∷ later) r others p = IsUnread (levels_of r.trees.planes) (rec
 
 -- A reader has taken these bytes, and its reader of bits has these in hand: whatever bits follow, the reading `first` of all gives
 -- the code-blocks that were read and then what is read of those that follow.
-pub record HasTaken (first : List Bool → Read (List values.Block)) (r : BlocksReader) (bytes : List ℕ) (h : Hand) : Type 0 where
+pub record HasTaken (first : List Bool → Read (List values.Block)) (r : BlocksReader) (bytes : List ℕ) (h : BitInState) : Type 0 where
   pub done : List Bool
   pub nodes : List Node
   pub others : List Node
@@ -96,16 +96,20 @@ pub record HasTaken (first : List Bool → Read (List values.Block)) (r : Blocks
   pub among : IsAmong (grids_left r) r
   pub goes_on : (further : List Bool) → first (done ++ further) ≡ ahead (map block_of r.blocks.items) (left_of r nodes others further)
 
+-- A reader of the code-blocks of these grids has taken nothing.
+abbrev pub BeginsBlocks : List values.Grid → BlocksReader → Type 0
+BeginsBlocks gs r = (h : BitInState) → IsFree h → HasRead [] [] h → HasTaken (read_bits gs) r [] h
+
 -- All code-blocks were read of the bytes that came; or the reading of them stops, and where a further piece is wanted all of this
 -- one was taken.
-abbrev pub Took : (List Bool → Read (List values.Block)) → BlocksReader → List ℕ → Source → Source → Result (Unit {0}) Stop → Type 0
+abbrev pub Took : (List Bool → Read (List values.Block)) → BlocksReader → List ℕ → Source → Source → Result (Unit {0}) HeaderStop → Type 0
 Took first r before old new (Ok x) = HasTaken first r (taken_of before new) new.bits × (grids_left r ≡ []) × (r.begun ≡ true)
 Took first r before old new (Err stopped) =
     IsStop (first (packed_bits (all_of before old)).bits) (packed_bits (all_of before old)).broken_at stopped
     × (stopped ≡ Need → (new.at ≡ length new.piece.now) × HasTaken first r (taken_of before new) new.bits)
 
 -- A part was read of the bytes that came; or the reading of it stops, and where a further piece is wanted all of this one was taken.
-abbrev pub TookPart : (List Bool → Read (List values.Block)) → BlocksReader → List ℕ → Source → Source → Result (Unit {0}) Stop → Type 0
+abbrev pub TookPart : (List Bool → Read (List values.Block)) → BlocksReader → List ℕ → Source → Source → Result (Unit {0}) HeaderStop → Type 0
 TookPart first r before old new (Ok x) = HasTaken first r (taken_of before new) new.bits
 TookPart first r before old new (Err stopped) =
     IsStop (first (packed_bits (all_of before old)).bits) (packed_bits (all_of before old)).broken_at stopped
@@ -126,11 +130,11 @@ abbrev pub IsReadyIn : BlocksReader → Source → Type 0
 IsReadyIn r s = (first : List Bool → Read (List values.Block)) × (before : List ℕ) × HasTaken first r (taken_of before s) s.bits
 
 -- A call reads a part of what is left, for whatever reading and whatever bytes before.
-abbrev pub TakesPart : BlocksReader → BlocksReader → Source → Source → Result (Unit {0}) Stop → Type 0
+abbrev pub TakesPart : BlocksReader → BlocksReader → Source → Source → Result (Unit {0}) HeaderStop → Type 0
 TakesPart r now old new out =
     (first : List Bool → Read (List values.Block)) (before : List ℕ) → HasTaken first r (taken_of before old) old.bits → TookPart first now before old new out
 
 -- A call reads all that is left, for whatever reading and whatever bytes before.
-abbrev pub TakesAll : BlocksReader → BlocksReader → Source → Source → Result (Unit {0}) Stop → Type 0
+abbrev pub TakesAll : BlocksReader → BlocksReader → Source → Source → Result (Unit {0}) HeaderStop → Type 0
 TakesAll r now old new out =
     (first : List Bool → Read (List values.Block)) (before : List ℕ) → HasTaken first r (taken_of before old) old.bits → Took first now before old new out

@@ -8,20 +8,20 @@ use Rattle.codestream_model.specs.PacketHeader.{HaveOwnBands}
 use Rattle.codestream_model.specs.MarkedHeader.{SpellsMarkedHeader, RefusesMarkedHeader, NeedsMarkedHeaderBytes, marked_header_of}
 use Rattle.codestream_model.specs.PacketHeaderReading.{Read, Got, AtEnd, Refused, Done, read_bits, header_of}
 use Rattle.precinct_geometry.specs.Spans.{grid_of}
-use Rattle.stuffed_bits.specs.Hand.{Hand}
+use Rattle.stuffed_bits.specs.BitInState.{BitInState}
 use Rattle.packet_header.specs.Answers.{why_of, stop_at, block_of, out_at, Tells}
 use Rattle.packet_header.specs.Moves.{taken_of, all_of, IsStopNeed}
 use Rattle.packet_header.specs.Closing.{closed_after, counted}
 use Rattle.packet_header.specs.Blocks.{HasTaken}
 use Rattle.packet_header.specs.declared.block.Block.{Block}
 use Rattle.packet_header.specs.declared.blocks.BlocksReader.{BlocksReader}
-use Rattle.packet_header.specs.declared.source.Source.{Source}
+use Rattle.stuffed_bits.specs.declared.source.Source.{Source}
 use Rattle.packet_header.specs.declared.reader.Stage.{Stage}
 use Rattle.packet_header.specs.declared.reader.Stage.TheVariants.{Header, Eph, EphEnd}
 use Rattle.packet_header.specs.declared.refusal.HeaderOut.{HeaderOut}
 use Rattle.packet_header.specs.declared.refusal.HeaderOut.TheVariants as out
-use Rattle.packet_header.specs.declared.refusal.Stop.{Stop}
-use Rattle.packet_header.specs.declared.refusal.Stop.TheVariants.{Bad}
+use Rattle.packet_header.specs.declared.refusal.HeaderStop.{HeaderStop}
+use Rattle.packet_header.specs.declared.refusal.HeaderStop.TheVariants.{Bad}
 
 -- The state of a reader of packet headers: its room for code-blocks and those that it has read, whether EPH is asked for, what is
 -- read next, how far the code-blocks were read, the bits in hand, and how many bytes of the header it was fed.
@@ -31,7 +31,7 @@ pub record ReaderState : Type 0 where
   pub eph : Bool
   pub stage : Stage
   pub progress : BlocksReader
-  pub bits : Hand
+  pub bits : BitInState
   pub fed : ℕ
 
 -- The grids of the precinct whose header is read.
@@ -62,14 +62,14 @@ pub record IsFed (r : ReaderState) (bytes : List ℕ) : Type 0 where
 
 -- A reading of the bits of bytes is answered: the code-blocks follow those that were held, and the bits are closed; or the
 -- answer is what stops the reading.
-abbrev pub ReadsHeader : Read (List values.Block) → List ℕ → List Block → List Block → Result ℕ Stop → Type 0
+abbrev pub ReadsHeader : Read (List values.Block) → List ℕ → List Block → List Block → Result ℕ HeaderStop → Type 0
 ReadsHeader (Got blocks rest) bytes held now answer =
     (added : List Block) × (now ≡ held ++ added) × (map block_of added ≡ blocks) × (answer ≡ closed_after bytes (bytes_of_bits 0 (length (packed_bits bytes).bits - length rest) bytes))
 ReadsHeader AtEnd bytes held now answer = answer ≡ Err (stop_at (packed_bits bytes).broken_at)
 ReadsHeader (Refused reason) bytes held now answer = answer ≡ Err (Bad (why_of reason))
 
 -- The answer for this many bytes.
-abbrev pub out_of : ℕ → Result ℕ Stop → HeaderOut
+abbrev pub out_of : ℕ → Result ℕ HeaderStop → HeaderOut
 out_of bytes (Ok used) = out.Done used
 out_of bytes (Err stopped) = out_at bytes stopped
 
@@ -88,13 +88,13 @@ abbrev pub IsReadyForHeader : BlocksReader → Source → Type 0
 IsReadyForHeader r s = (before : List ℕ) × HasTaken (header_reading r) r (taken_of before s) s.bits
 
 -- A call reads what is left of a header, whatever bytes came before.
-abbrev pub EndsHeader : BlocksReader → BlocksReader → Source → Result ℕ Stop → Type 0
+abbrev pub EndsHeader : BlocksReader → BlocksReader → Source → Result ℕ HeaderStop → Type 0
 EndsHeader r now old out =
     (before : List ℕ) → HasTaken (header_reading r) r (taken_of before old) old.bits
     → ReadsHeader (header_reading r (packed_bits (all_of before old)).bits) (all_of before old) [] now.blocks.items (counted (length before) out)
 
 -- Where a further piece is needed, the reader has taken all of this one.
-abbrev pub WaitsInHeader : BlocksReader → BlocksReader → Source → Source → Result ℕ Stop → Type 0
+abbrev pub WaitsInHeader : BlocksReader → BlocksReader → Source → Source → Result ℕ HeaderStop → Type 0
 WaitsInHeader r now old new out =
     IsStopNeed out → (before : List ℕ) → HasTaken (header_reading r) r (taken_of before old) old.bits → HasTaken (header_reading r) now (all_of before old) new.bits
 
@@ -103,13 +103,13 @@ abbrev pub IsInHeader : ReaderState → Type 0
 IsInHeader r = (bytes : List ℕ) × HasTaken (read_bits (grids_of r)) r.progress bytes r.bits
 
 -- A call reads what is left of a header in further bytes, whatever came before.
-abbrev pub ReadsOn : ReaderState → ReaderState → List ℕ → Result ℕ Stop → Type 0
+abbrev pub ReadsOn : ReaderState → ReaderState → List ℕ → Result ℕ HeaderStop → Type 0
 ReadsOn r now front answer =
     (bytes : List ℕ) → HasTaken (read_bits (grids_of r)) r.progress bytes r.bits
     → ReadsHeader (read_bits (grids_of r) (packed_bits (bytes ++ front)).bits) (bytes ++ front) [] now.blocks (counted (length bytes) answer)
 
 -- Where a further piece is needed, the reader has taken all of these bytes.
-abbrev pub WaitsAfter : ReaderState → ReaderState → List ℕ → Result ℕ Stop → Type 0
+abbrev pub WaitsAfter : ReaderState → ReaderState → List ℕ → Result ℕ HeaderStop → Type 0
 WaitsAfter r now front answer =
     IsStopNeed answer → (bytes : List ℕ) → HasTaken (read_bits (grids_of r)) r.progress bytes r.bits → HasTaken (read_bits (grids_of r)) now.progress (bytes ++ front) now.bits
 

@@ -2,7 +2,7 @@ pub mod Answers
 pub mod Moves
 pub mod Steps
 pub mod Leaves
-pub mod Seats
+pub mod Positions
 pub mod Walks
 pub mod Blocks
 pub mod Closing
@@ -10,4 +10,4 @@ pub mod Headers
 pub mod Marked
 pub mod Puts
 pub mod Queues
-pub mod SeatsWritten
+pub mod PositionsWritten

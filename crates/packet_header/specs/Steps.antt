@@ -1,18 +1,18 @@
 -- What is still to be read of a code-block whose values were read up to some step.
-use Rattle.std.specs.Prelude.{◌≡◌, ◌≤◌, ℕ, Bool, true, false, List, [], ◌∷◌, Result, Ok, Err}
+use Rattle.std.specs.Prelude.{◌≡◌, ◌≤◌, ℕ, Bool, true, false, List, ◌∷◌, Result, Ok, Err}
 use Rattle.codestream_model.specs.Values as values
 use Rattle.codestream_model.specs.TagTrees.{Seat}
 use Rattle.codestream_model.specs.HeaderPieces.{refine_width}
-use Rattle.codestream_model.specs.PacketHeaderReading.{Read, Got, AtEnd, and_then, read_passes, read_lblock, read_cleanup, read_refine, read_block}
-use Rattle.stuffed_bits.specs.Hand.{IsOfNumber, IsOfRun}
+use Rattle.codestream_model.specs.PacketHeaderReading.{Read, Got, AtEnd, and_then, read_passes, read_lblock, read_cleanup, read_refine}
+use Rattle.stuffed_bits.specs.BitInState.{IsOfNumber, IsOfRun}
 use Rattle.stuffed_bits.specs.declared.part.Part.{Part}
 use Rattle.stuffed_bits.specs.declared.part.Part.TheVariants.{Nothing}
 use Rattle.packet_header.specs.Answers.{block_of}
 use Rattle.packet_header.specs.Moves.{Moves}
 use Rattle.packet_header.specs.declared.block.Block.{Block}
-use Rattle.packet_header.specs.declared.source.Source.{Source}
-use Rattle.packet_header.specs.declared.refusal.Stop.{Stop}
-use Rattle.packet_header.specs.declared.refusal.Stop.TheVariants.{Need}
+use Rattle.stuffed_bits.specs.declared.source.Source.{Source}
+use Rattle.packet_header.specs.declared.refusal.HeaderStop.{HeaderStop}
+use Rattle.packet_header.specs.declared.refusal.HeaderStop.TheVariants.{Need}
 use Rattle.packet_header.specs.declared.step.Step.{Step}
 use Rattle.packet_header.specs.declared.step.Step.TheVariants.{Inclusion, Planes, Passes, MorePasses, LastPasses, Lblock, Cleanup, Refine}
 
@@ -66,12 +66,12 @@ IsOfBlock (Cleanup planes passes lblock) = Unit {0}
 IsOfBlock (Refine planes passes lblock cleanup) = Unit {0}
 
 -- What is to be read after an answer: nothing but the code-block, or its values from a step on.
-abbrev pub block_then : Seat → Step → Result Block Stop → List Bool → Read values.Block
+abbrev pub block_then : Seat → Step → Result Block HeaderStop → List Bool → Read values.Block
 block_then s step (Ok b) l = Got (block_of b) l
 block_then s step (Err stopped) l = block_rest s step l
 
 -- After a code-block no bits are kept; where a further piece is needed, the bits kept are of the value of the step.
-abbrev pub FitsBlock : Step → Part → Result Block Stop → Type 0
+abbrev pub FitsBlock : Step → Part → Result Block HeaderStop → Type 0
 FitsBlock step p (Ok b) = p ≡ Nothing
 FitsBlock step p (Err stopped) = stopped ≡ Need → Fits step p × IsOfBlock step
 
@@ -80,7 +80,7 @@ abbrev pub position_of : Block → Seat
 position_of b = record { band = b.band; col = b.col; row = b.row }
 
 -- A call reads the values of the code-block at a position from one step on, and where it stops another one is reached.
-abbrev pub ReadsFrom : Seat → Step → Step → Source → Source → Result Block Stop → Type 0
+abbrev pub ReadsFrom : Seat → Step → Step → Source → Source → Result Block HeaderStop → Type 0
 ReadsFrom s from at old new out = Moves (block_rest s from) (block_then s at out) old new out
 
 -- A code-block whose values but the last are known.

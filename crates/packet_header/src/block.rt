@@ -4,6 +4,17 @@ use precinct_geometry::Place;
 /// The greatest number of zero bit-planes.
 pub const MOST_PLANES: u8 = 74;
 
+/// The position of a code-block in the grids of a precinct.
+#[derive(Clone, Copy)]
+pub struct Position {
+    /// The band: 0 LL, 1 HL, 2 LH or 3 HH.
+    pub band: u8,
+    /// The column in the precinct's grid of this band.
+    pub col: u32,
+    /// The row in that grid.
+    pub row: u32,
+}
+
 /// A code-block that a packet includes, and what its header says of it.
 #[derive(Clone, Copy, Debug, Default, PartialEq, Eq)]
 pub struct Block {
@@ -33,6 +44,7 @@ pub struct Precinct<'a> {
     pub pid: u32,
     /// The included code-blocks, in header order.
     pub blocks: &'a [Block],
-    /// The segments of these code-blocks, joined: of each the cleanup segment and then the refinement segment.
+    /// The segments of these code-blocks, joined: of each the cleanup segment and then the refinement
+    /// segment.
     pub bytes: &'a [u8],
 }

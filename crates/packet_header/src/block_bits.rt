@@ -11,7 +11,7 @@ use crate::block::Block;
 use crate::pieces::{LEAST_LBLOCK, refine_bits};
 use stuffed_bits::{BitWriter, Full};
 
-/// Puts so many ones and a zero.
+/// Puts `ones` ones and a zero.
 fn put_ones(ones: u8, bits: &mut BitWriter, buf: &mut [u8]) -> Result<(), Full>
     requires { bits.old.len ≤ length buf.old }
     ensures { Puts (run_of true ones false) bits.old bits.new buf.old buf.new result }
@@ -23,7 +23,7 @@ fn put_ones(ones: u8, bits: &mut BitWriter, buf: &mut [u8]) -> Result<(), Full>
     put_ones(ones - 1, bits, buf)
 }
 
-/// Puts a number in so many bits.
+/// Puts a number in `width` bits.
 fn put_number(width: u8, number: u32, bits: &mut BitWriter, buf: &mut [u8]) -> Result<(), Full>
     requires low { width ≤ 32 }
     requires inside { bits.old.len ≤ length buf.old }
@@ -82,7 +82,8 @@ fn lblock_of(block: &Block) -> u8
 fn put_refine(block: &Block, lblock: u8, bits: &mut BitWriter, buf: &mut [u8]) -> Result<(), Full>
     requires low { lblock ≤ 24 }
     requires inside { bits.old.len ≤ length buf.old }
-    ensures { Puts (refine_tail block.now.passes lblock block.now.refine) bits.old bits.new buf.old buf.new result }
+    ensures { Puts (refine_tail block.now.passes lblock block.now.refine)
+        bits.old bits.new buf.old buf.new result }
 {
     if block.passes == 1 {
         return Ok(());
@@ -90,11 +91,12 @@ fn put_refine(block: &Block, lblock: u8, bits: &mut BitWriter, buf: &mut [u8]) -
     put_number(refine_bits(block.passes, lblock), block.refine, bits, buf)
 }
 
-/// Puts the values of an included code-block, behind its zero bit-planes: its passes, Lblock, and the lengths of its segments.
+/// Puts the values of an included code-block, after its zero bit-planes: its passes, Lblock, and the lengths of its segments.
 pub fn put_values(block: &Block, bits: &mut BitWriter, buf: &mut [u8]) -> Result<(), Full>
     requires limits { IsWithinLimits (block_of block.now) }
     requires inside { bits.old.len ≤ length buf.old }
-    ensures { Puts (value_bits (least_lblock (block_of block.now)) (block_of block.now)) bits.old bits.new buf.old buf.new result }
+    ensures { Puts (value_bits (least_lblock (block_of block.now)) (block_of block.now))
+        bits.old bits.new buf.old buf.new result }
 {
     let lblock = lblock_of(block);
     put_passes(block.passes, bits, buf)?;

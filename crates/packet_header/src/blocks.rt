@@ -1,22 +1,20 @@
 //! The code-blocks of a header, read in any pieces: grid after grid, from where the last piece ended.
-ghost use Rattle.std.specs.Prelude.{◌≡◌, ◌≤◌, ◌<◌, ◌+◌, ◌^◌, List, true, false, [], map, length, Some, IfSome, IfOk, vec_capacity};
+ghost use Rattle.std.specs.Prelude.{◌≡◌, ◌≤◌, ◌<◌, ◌+◌, ◌^◌, List, true, false, [], map, length, Some, IfSome, IfOk, OnOk, vec_capacity};
 ghost use Rattle.codestream_model.specs.Packet.{block_count};
 ghost use Rattle.codestream_model.specs.PacketHeader.{HaveOwnBands};
-ghost use Rattle.codestream_model.specs.PacketHeaderReading.{read_bits};
 ghost use Rattle.precinct_geometry.specs.Spans.{grid_of};
-ghost use Rattle.stuffed_bits.specs.Hand.{Hand, IsFree};
-ghost use Rattle.stuffed_bits.specs.BitsRead.{HasRead};
-ghost use Rattle.packet_header.specs.Walks.{seats_from};
-ghost use Rattle.packet_header.specs.Blocks.{HasRoom, IsSameRoom, HasTaken, IsReadyIn, TakesPart, TakesAll, IsEntered, IsCurrent, later_grids};
+ghost use Rattle.packet_header.specs.Walks.{positions_in};
+ghost use Rattle.packet_header.specs.Blocks.{HasRoom, IsSameRoom, BeginsBlocks, IsReadyIn, TakesPart, TakesAll, IsEntered, IsCurrent, later_grids};
 ghost use Rattle.packet_header.specs.Headers.{IsReadyForHeader, EndsHeader, WaitsInHeader};
 
 use crate::block::Block;
 use crate::grids::TagTrees;
-use crate::refusal::Stop;
-use crate::source::Source;
+use crate::refusal::HeaderStop;
+use crate::source;
 use crate::step::Step;
 use precinct_geometry::{Bands, Grid};
 use std::alloc::{AllocError, Global};
+use stuffed_bits::Source;
 use tag_tree::Tree;
 
 /// The code-blocks of a header as far as they were read, and what is read next.
@@ -78,9 +76,11 @@ impl BlocksReader {
 
     /// Goes to the first code-block of a grid, or past the last grid.
     fn enter(&mut self, grid: usize)
-        requires inclusion { block_count (later_grids grid self.old) ≤ self.old.trees.inclusion.leaves }
+        requires inclusion { block_count (later_grids grid self.old)
+            ≤ self.old.trees.inclusion.leaves }
         requires planes { block_count (later_grids grid self.old) ≤ self.old.trees.planes.leaves }
-        ensures place { self.new ≡ record self.old { grid = grid; col = 0; row = 0; trees = self.new.trees } }
+        ensures place { self.new
+            ≡ record self.old { grid = grid; col = 0; row = 0; trees = self.new.trees } }
         ensures trees { IsEntered (later_grids grid self.old) self.new.trees }
         ensures room { self.new.trees.inclusion.leaves ≡ self.old.trees.inclusion.leaves }
         ensures planes_room { self.new.trees.planes.leaves ≡ self.old.trees.planes.leaves }
@@ -98,10 +98,11 @@ impl BlocksReader {
 
     /// Begins the header of a precinct with these grids.
     pub fn begin(&mut self, bands: &Bands)
-        requires inclusion { block_count (map grid_of bands.now.items) ≤ self.old.trees.inclusion.leaves }
+        requires inclusion { block_count (map grid_of bands.now.items)
+            ≤ self.old.trees.inclusion.leaves }
         requires planes { block_count (map grid_of bands.now.items) ≤ self.old.trees.planes.leaves }
         requires blocks { block_count (map grid_of bands.now.items) ≤ vec_capacity self.old.blocks }
-        ensures begun { (h : Hand) → IsFree h → HasRead [] [] h → HasTaken (read_bits (map grid_of bands.now.items)) self.new [] h }
+        ensures begun { BeginsBlocks (map grid_of bands.now.items) self.new }
         ensures bands { self.new.bands.items ≡ bands.now.items }
         ensures inclusion { self.new.trees.inclusion.leaves ≡ self.old.trees.inclusion.leaves }
         ensures planes { self.new.trees.planes.leaves ≡ self.old.trees.planes.leaves }
@@ -115,7 +116,7 @@ impl BlocksReader {
     }
 
     /// Reads the first bit: where it is 0, the packet has no code-block.
-    fn read_first(&mut self, source: &mut Source<'_>) -> Result<(), Stop>
+    fn read_first(&mut self, source: &mut Source<'_>) -> Result<(), HeaderStop>
         requires within { source.old.at ≤ length source.old.piece.now }
         requires ready { IsReadyIn self.old source.old }
         requires begun { self.old.begun ≡ false }
@@ -125,7 +126,7 @@ impl BlocksReader {
         ensures piece { source.new.piece.now ≡ source.old.piece.now }
         ensures same { IsSameRoom self.old self.new }
     {
-        if source.bit()? {
+        if source::bit(source)? {
             self.begun = true;
             return Ok(());
         }
@@ -147,13 +148,13 @@ impl BlocksReader {
     }
 
     /// Reads what is left of the code-blocks of this grid, the current one.
-    fn read_grid(&mut self, own: Grid, source: &mut Source<'_>) -> Result<(), Stop>
+    fn read_grid(&mut self, own: Grid, source: &mut Source<'_>) -> Result<(), HeaderStop>
         requires within { source.old.at ≤ length source.old.piece.now }
         requires current { IsCurrent self.old (Some own) }
         requires begun { self.old.begun ≡ true }
         requires ready { IsReadyIn self.old source.old }
         ensures read { TakesPart self.old self.new source.old source.new result }
-        ensures whole { IfOk result (λ _. seats_from (grid_of own) self.new.row self.new.col ≡ []) }
+        ensures whole { OnOk result (positions_in own self.new.row self.new.col ≡ []) }
         ensures grid { self.new.grid ≡ self.old.grid }
         ensures begun { self.new.begun ≡ true }
         ensures within { source.new.at ≤ length source.new.piece.now }
@@ -174,7 +175,7 @@ impl BlocksReader {
     }
 
     /// Reads what is left of the code-blocks of the grids.
-    fn read_grids(&mut self, source: &mut Source<'_>) -> Result<(), Stop>
+    fn read_grids(&mut self, source: &mut Source<'_>) -> Result<(), HeaderStop>
         requires within { source.old.at ≤ length source.old.piece.now }
         requires ready { IsReadyIn self.old source.old }
         requires begun { self.old.begun ≡ true }
@@ -191,7 +192,7 @@ impl BlocksReader {
     }
 
     /// Reads what is left of the code-blocks.
-    fn read_blocks(&mut self, source: &mut Source<'_>) -> Result<(), Stop>
+    fn read_blocks(&mut self, source: &mut Source<'_>) -> Result<(), HeaderStop>
         requires within { source.old.at ≤ length source.old.piece.now }
         requires ready { IsReadyIn self.old source.old }
         ensures read { TakesAll self.old self.new source.old source.new result }
@@ -207,7 +208,7 @@ impl BlocksReader {
     }
 
     /// Reads what is left of a header, and answers how many bytes of the piece it took.
-    pub fn read(&mut self, source: &mut Source<'_>) -> Result<usize, Stop>
+    pub fn read(&mut self, source: &mut Source<'_>) -> Result<usize, HeaderStop>
         requires within { source.old.at ≤ length source.old.piece.now }
         requires own_bands { HaveOwnBands (map grid_of self.old.bands.items) }
         requires ready { IsReadyForHeader self.old source.old }
@@ -217,6 +218,6 @@ impl BlocksReader {
         ensures same { IsSameRoom self.old self.new }
     {
         self.read_blocks(source)?;
-        source.close()
+        source::close(source)
     }
 }

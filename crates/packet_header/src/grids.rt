@@ -1,18 +1,18 @@
 //! The code-blocks of a grid, read in raster order and each step by step.
 ghost use Rattle.std.specs.Prelude.{◌≡◌, ◌≤◌, ◌<◌, ◌+◌, ◌*◌, false, [], length, IfOk, IfErr, vec_len, vec_capacity};
-ghost use Rattle.stuffed_bits.specs.Hand.{IsOfRun};
-ghost use Rattle.precinct_geometry.specs.Spans.{grid_of};
+ghost use Rattle.stuffed_bits.specs.BitInState.{IsOfRun};
 ghost use Rattle.tag_tree.specs.LeafReading.{IsSameShape};
 ghost use Rattle.packet_header.specs.Steps.{Fits, IsOfBlock};
-ghost use Rattle.packet_header.specs.Seats.{KnowsBoth, HasGrid, IsReady, ReadsBlock, KeepsBlock, FitsSeat};
-ghost use Rattle.packet_header.specs.Walks.{seats_from, WalksOn};
+ghost use Rattle.packet_header.specs.Positions.{position_at, seat_at, KnowsBoth, HasGrid, IsReady, ReadsBlock, KeepsBlock, FitsAt};
+ghost use Rattle.packet_header.specs.Walks.{positions_in, WalksOn};
 
-use crate::block::Block;
+use crate::block::{Block, Position};
 use crate::pieces::values;
-use crate::refusal::Stop;
-use crate::source::Source;
+use crate::refusal::HeaderStop;
+use crate::source;
 use crate::step::Step;
 use precinct_geometry::Grid;
+use stuffed_bits::Source;
 use tag_tree::Tree;
 
 /// The two trees of a band.
@@ -28,25 +28,24 @@ pub struct TagTrees {
 #[inline(always)]
 fn keep_values(
     step: &mut Step,
-    band: u8,
-    col: u32,
-    row: u32,
+    at: Position,
     source: &mut Source<'_>,
     blocks: &mut Vec<Block>,
-) -> Result<(), Stop>
+) -> Result<(), HeaderStop>
     requires within { source.old.at ≤ length source.old.piece.now }
     requires fits { Fits step.old source.old.bits.part }
     requires of_block { IsOfBlock step.old }
     requires room { vec_len blocks.old < vec_capacity blocks.old }
-    ensures read { KeepsBlock (record { band = band; col = col; row = row }) step.old step.new source.old source.new blocks.old.items blocks.new.items result }
-    ensures fits { FitsSeat step.new source.new.bits.part result }
+    ensures read { KeepsBlock (seat_at at) step.old step.new source.old source.new
+        blocks.old.items blocks.new.items result }
+    ensures fits { FitsAt step.new source.new.bits.part result }
     ensures within { source.new.at ≤ length source.new.piece.now }
     ensures piece { source.new.piece.now ≡ source.old.piece.now }
     ensures few { vec_len blocks.new ≤ vec_len blocks.old + 1 }
     ensures kept { IfErr result (λ _. vec_len blocks.new ≡ vec_len blocks.old) }
     ensures capacity { vec_capacity blocks.new ≡ vec_capacity blocks.old }
 {
-    let block = values(step, band, col, row, source)?;
+    let block = values(step, at, source)?;
     *step = Step::Inclusion;
     blocks.push_reserved(block);
     Ok(())
@@ -70,21 +69,20 @@ impl TagTrees {
     fn read_planes(
         &mut self,
         step: &mut Step,
-        band: u8,
-        col: u32,
-        row: u32,
+        at: Position,
         source: &mut Source<'_>,
         blocks: &mut Vec<Block>,
-    ) -> Result<(), Stop>
+    ) -> Result<(), HeaderStop>
         requires within { source.old.at ≤ length source.old.piece.now }
-        requires ready { IsReady self.old (record { band = band; col = col; row = row }) Step.Planes source.old }
+        requires ready { IsReady self.old (seat_at at) Step.Planes source.old }
         requires own { IsOfRun false source.old.bits.part }
         requires same { HasGrid self.old self.old.inclusion.cols self.old.inclusion.rows }
-        requires col_in { col < self.old.inclusion.cols }
-        requires row_in { row < self.old.inclusion.rows }
+        requires col_in { at.col < self.old.inclusion.cols }
+        requires row_in { at.row < self.old.inclusion.rows }
         requires room { vec_len blocks.old < vec_capacity blocks.old }
-        ensures read { ReadsBlock self.old self.new (record { band = band; col = col; row = row }) Step.Planes step.new source.old source.new blocks.old.items blocks.new.items result }
-        ensures fits { FitsSeat step.new source.new.bits.part result }
+        ensures read { ReadsBlock self.old self.new (seat_at at) Step.Planes step.new
+            source.old source.new blocks.old.items blocks.new.items result }
+        ensures fits { FitsAt step.new source.new.bits.part result }
         ensures inclusion { self.new.inclusion ≡ self.old.inclusion }
         ensures planes { IsSameShape self.old.planes self.new.planes }
         ensures within { source.new.at ≤ length source.new.piece.now }
@@ -94,31 +92,30 @@ impl TagTrees {
         ensures capacity { vec_capacity blocks.new ≡ vec_capacity blocks.old }
     {
         *step = Step::Planes;
-        let planes = source.planes(&mut self.planes, col, row)?;
+        let planes = source::planes(&mut self.planes, at.col, at.row, source)?;
         *step = Step::Passes { planes };
-        keep_values(step, band, col, row, source, blocks)
+        keep_values(step, at, source, blocks)
     }
 
     /// Reads the code-block at a position from a step on, and keeps it if it is included.
     #[inline(always)]
-    fn read_seat(
+    fn read_at(
         &mut self,
         step: &mut Step,
-        band: u8,
-        col: u32,
-        row: u32,
+        at: Position,
         source: &mut Source<'_>,
         blocks: &mut Vec<Block>,
-    ) -> Result<(), Stop>
+    ) -> Result<(), HeaderStop>
         requires within { source.old.at ≤ length source.old.piece.now }
-        requires ready { IsReady self.old (record { band = band; col = col; row = row }) step.old source.old }
+        requires ready { IsReady self.old (seat_at at) step.old source.old }
         requires fits { Fits step.old source.old.bits.part }
         requires same { HasGrid self.old self.old.inclusion.cols self.old.inclusion.rows }
-        requires col_in { col < self.old.inclusion.cols }
-        requires row_in { row < self.old.inclusion.rows }
+        requires col_in { at.col < self.old.inclusion.cols }
+        requires row_in { at.row < self.old.inclusion.rows }
         requires room { vec_len blocks.old < vec_capacity blocks.old }
-        ensures read { ReadsBlock self.old self.new (record { band = band; col = col; row = row }) step.old step.new source.old source.new blocks.old.items blocks.new.items result }
-        ensures fits { FitsSeat step.new source.new.bits.part result }
+        ensures read { ReadsBlock self.old self.new (seat_at at) step.old step.new
+            source.old source.new blocks.old.items blocks.new.items result }
+        ensures fits { FitsAt step.new source.new.bits.part result }
         ensures inclusion { IsSameShape self.old.inclusion self.new.inclusion }
         ensures planes { IsSameShape self.old.planes self.new.planes }
         ensures within { source.new.at ≤ length source.new.piece.now }
@@ -129,14 +126,14 @@ impl TagTrees {
     {
         match *step {
             Step::Inclusion => {
-                let label = source.inclusion(&mut self.inclusion, col, row)?;
+                let label = source::inclusion(&mut self.inclusion, at.col, at.row, source)?;
                 if label != 0 {
                     return Ok(());
                 }
-                self.read_planes(step, band, col, row, source, blocks)
+                self.read_planes(step, at, source, blocks)
             }
-            Step::Planes => self.read_planes(step, band, col, row, source, blocks),
-            _ => keep_values(step, band, col, row, source, blocks),
+            Step::Planes => self.read_planes(step, at, source, blocks),
+            _ => keep_values(step, at, source, blocks),
         }
     }
 
@@ -149,20 +146,25 @@ impl TagTrees {
         step: &mut Step,
         source: &mut Source<'_>,
         blocks: &mut Vec<Block>,
-    ) -> Result<(), Stop>
+    ) -> Result<(), HeaderStop>
         requires within { source.old.at ≤ length source.old.piece.now }
-        requires ready { IsReady self.old (record { band = grid.band; col = col.old; row = row.old }) step.old source.old }
+        requires ready { IsReady self.old (position_at grid.band col.old row.old) step.old
+            source.old }
         requires fits { Fits step.old source.old.bits.part }
         requires same { HasGrid self.old grid.cols grid.rows }
         requires col_in { col.old < grid.cols }
-        requires none { seats_from (grid_of grid) row.old col.old ≡ [] → step.old ≡ Step.Inclusion }
-        requires room { vec_len blocks.old + length (seats_from (grid_of grid) row.old col.old) ≤ vec_capacity blocks.old }
-        ensures read { WalksOn self.old self.new (seats_from (grid_of grid) row.old col.old) (seats_from (grid_of grid) row.new col.new) step.old step.new source.old source.new blocks.old.items blocks.new.items result }
-        ensures whole { IfOk result (λ _. seats_from (grid_of grid) row.new col.new ≡ []) }
-        ensures fits { FitsSeat step.new source.new.bits.part result }
+        requires none { positions_in grid row.old col.old ≡ [] → step.old ≡ Step.Inclusion }
+        requires room { vec_len blocks.old + length (positions_in grid row.old col.old)
+            ≤ vec_capacity blocks.old }
+        ensures read { WalksOn self.old self.new
+            (positions_in grid row.old col.old) (positions_in grid row.new col.new)
+            step.old step.new source.old source.new blocks.old.items blocks.new.items result }
+        ensures whole { IfOk result (λ _. positions_in grid row.new col.new ≡ []) }
+        ensures fits { FitsAt step.new source.new.bits.part result }
         ensures col_in { col.new < grid.cols }
-        ensures none { seats_from (grid_of grid) row.new col.new ≡ [] → step.new ≡ Step.Inclusion }
-        ensures few { vec_len blocks.new + length (seats_from (grid_of grid) row.new col.new) ≤ vec_len blocks.old + length (seats_from (grid_of grid) row.old col.old) }
+        ensures none { positions_in grid row.new col.new ≡ [] → step.new ≡ Step.Inclusion }
+        ensures few { vec_len blocks.new + length (positions_in grid row.new col.new)
+            ≤ vec_len blocks.old + length (positions_in grid row.old col.old) }
         ensures inclusion { IsSameShape self.old.inclusion self.new.inclusion }
         ensures planes { IsSameShape self.old.planes self.new.planes }
         ensures within { source.new.at ≤ length source.new.piece.now }
@@ -170,7 +172,12 @@ impl TagTrees {
         ensures capacity { vec_capacity blocks.new ≡ vec_capacity blocks.old }
     {
         while *row < grid.rows {
-            self.read_seat(step, grid.band, *col, *row, source, blocks)?;
+            let at = Position {
+                band: grid.band,
+                col: *col,
+                row: *row,
+            };
+            self.read_at(step, at, source, blocks)?;
             *col += 1;
             if *col == grid.cols {
                 *col = 0;

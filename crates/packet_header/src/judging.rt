@@ -5,8 +5,8 @@ ghost use Rattle.codestream_model.specs.TagTrees.{seats};
 ghost use Rattle.codestream_model.specs.PacketHeader.{HaveOwnBands, AreSeated, IsWithinLimits, AreBlocks};
 ghost use Rattle.precinct_geometry.specs.Spans.{grid_of};
 ghost use Rattle.packet_header.specs.Answers.{block_of};
-ghost use Rattle.packet_header.specs.Seats.{row_seats};
-ghost use Rattle.packet_header.specs.Queues.{waiting, passed};
+ghost use Rattle.packet_header.specs.Positions.{row_seats};
+ghost use Rattle.packet_header.specs.Queues.{remaining, passed};
 
 use crate::block::{Block, MOST_PLANES};
 use crate::pieces::{CLEANUP_END, LEAST_CLEANUP, REFINE_END};
@@ -18,7 +18,8 @@ const MOST_PASSES: u8 = 3;
 
 /// Takes the code-blocks of a row of a grid.
 fn pass_row(grid: Grid, row: u32, queue: &mut Queue<'_>)
-    ensures { waiting queue.new ≡ passed (row_seats grid.band grid.cols row) (waiting queue.old) }
+    ensures { remaining queue.new
+        ≡ passed (row_seats grid.band grid.cols row) (remaining queue.old) }
 {
     for col in 0..grid.cols {
         let _ = queue.take_at(grid.band, col, row);
@@ -27,7 +28,7 @@ fn pass_row(grid: Grid, row: u32, queue: &mut Queue<'_>)
 
 /// Takes the code-blocks of a grid.
 fn pass_grid(grid: Grid, queue: &mut Queue<'_>)
-    ensures { waiting queue.new ≡ passed (seats (grid_of grid)) (waiting queue.old) }
+    ensures { remaining queue.new ≡ passed (seats (grid_of grid)) (remaining queue.old) }
 {
     for row in 0..grid.rows {
         pass_row(grid, row, queue);
@@ -35,7 +36,7 @@ fn pass_grid(grid: Grid, queue: &mut Queue<'_>)
 }
 
 /// Whether code-blocks are distinct ones of these grids, in header order.
-fn are_seated(grids: &[Grid], blocks: &[Block]) -> bool
+fn are_in_order(grids: &[Grid], blocks: &[Block]) -> bool
     requires { HaveOwnBands (map grid_of grids.now) }
     ensures { IsTrue result ↔ AreSeated (map grid_of grids.now) (map block_of blocks.now) }
 {
@@ -82,5 +83,5 @@ pub fn are_blocks(grids: &[Grid], blocks: &[Block]) -> bool
     requires { HaveOwnBands (map grid_of grids.now) }
     ensures { IsTrue result ↔ AreBlocks (map grid_of grids.now) (map block_of blocks.now) }
 {
-    are_seated(grids, blocks) && are_within_limits(blocks)
+    are_in_order(grids, blocks) && are_within_limits(blocks)
 }

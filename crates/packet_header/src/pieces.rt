@@ -2,13 +2,15 @@
 //! with what follows it, so that reading can begin at any of them.
 ghost use Rattle.std.specs.Prelude.{◌≡◌, ◌≤◌, true, length};
 ghost use Rattle.codestream_model.specs.HeaderPieces.{refine_width};
-ghost use Rattle.stuffed_bits.specs.Hand.{IsFree, IsOfNumber, IsOfRun};
+ghost use Rattle.stuffed_bits.specs.BitInState.{IsFree, IsOfNumber, IsOfRun};
+ghost use Rattle.packet_header.specs.Positions.{seat_at};
 ghost use Rattle.packet_header.specs.Steps.{Fits, FitsBlock, IsOfBlock, ReadsFrom, position_of};
 
-use crate::block::Block;
-use crate::refusal::{HeaderWhy, Stop};
-use crate::source::Source;
+use crate::block::{Block, Position};
+use crate::refusal::{HeaderStop, HeaderWhy};
+use crate::source;
 use crate::step::Step;
+use stuffed_bits::Source;
 
 /// The least Lblock (T.800 B.10.7.1).
 pub const LEAST_LBLOCK: u8 = 3;
@@ -36,10 +38,11 @@ pub fn refine_bits(passes: u8, lblock: u8) -> u8
 
 /// Reads the values from the first bit of the number of passes on: `0` is 1.
 #[inline(always)]
-fn first_passes(known: Block, step: &mut Step, source: &mut Source<'_>) -> Result<Block, Stop>
+fn first_passes(known: Block, step: &mut Step, source: &mut Source<'_>) -> Result<Block, HeaderStop>
     requires within { source.old.at ≤ length source.old.piece.now }
     requires free { IsFree source.old.bits }
-    ensures reads { ReadsFrom (position_of known) (Step.Passes known.planes) step.new source.old source.new result }
+    ensures reads { ReadsFrom (position_of known) (Step.Passes known.planes)
+        step.new source.old source.new result }
     ensures fits { FitsBlock step.new source.new.bits.part result }
     ensures within { source.new.at ≤ length source.new.piece.now }
     ensures piece { source.new.piece.now ≡ source.old.piece.now }
@@ -47,7 +50,7 @@ fn first_passes(known: Block, step: &mut Step, source: &mut Source<'_>) -> Resul
     *step = Step::Passes {
         planes: known.planes,
     };
-    if source.bit()? {
+    if source::bit(source)? {
         return more_passes(known, step, source);
     }
     lblock(Block { passes: 1, ..known }, step, source)
@@ -55,10 +58,11 @@ fn first_passes(known: Block, step: &mut Step, source: &mut Source<'_>) -> Resul
 
 /// Reads the values from the second bit on, after a 1: `10` is 2.
 #[inline(always)]
-fn more_passes(known: Block, step: &mut Step, source: &mut Source<'_>) -> Result<Block, Stop>
+fn more_passes(known: Block, step: &mut Step, source: &mut Source<'_>) -> Result<Block, HeaderStop>
     requires within { source.old.at ≤ length source.old.piece.now }
     requires free { IsFree source.old.bits }
-    ensures reads { ReadsFrom (position_of known) (Step.MorePasses known.planes) step.new source.old source.new result }
+    ensures reads { ReadsFrom (position_of known) (Step.MorePasses known.planes)
+        step.new source.old source.new result }
     ensures fits { FitsBlock step.new source.new.bits.part result }
     ensures within { source.new.at ≤ length source.new.piece.now }
     ensures piece { source.new.piece.now ≡ source.old.piece.now }
@@ -66,7 +70,7 @@ fn more_passes(known: Block, step: &mut Step, source: &mut Source<'_>) -> Result
     *step = Step::MorePasses {
         planes: known.planes,
     };
-    if source.bit()? {
+    if source::bit(source)? {
         return last_passes(known, step, source);
     }
     lblock(Block { passes: 2, ..known }, step, source)
@@ -74,10 +78,11 @@ fn more_passes(known: Block, step: &mut Step, source: &mut Source<'_>) -> Result
 
 /// Reads the values from the last two bits of the number of passes on, after two ones: `1100` is 3.
 #[inline(always)]
-fn last_passes(known: Block, step: &mut Step, source: &mut Source<'_>) -> Result<Block, Stop>
+fn last_passes(known: Block, step: &mut Step, source: &mut Source<'_>) -> Result<Block, HeaderStop>
     requires within { source.old.at ≤ length source.old.piece.now }
     requires own { IsOfNumber 2 source.old.bits.part }
-    ensures reads { ReadsFrom (position_of known) (Step.LastPasses known.planes) step.new source.old source.new result }
+    ensures reads { ReadsFrom (position_of known) (Step.LastPasses known.planes)
+        step.new source.old source.new result }
     ensures fits { FitsBlock step.new source.new.bits.part result }
     ensures within { source.new.at ≤ length source.new.piece.now }
     ensures piece { source.new.piece.now ≡ source.old.piece.now }
@@ -85,19 +90,20 @@ fn last_passes(known: Block, step: &mut Step, source: &mut Source<'_>) -> Result
     *step = Step::LastPasses {
         planes: known.planes,
     };
-    let code = source.number(2)?;
+    let code = source::number(2, source)?;
     if code != 0 {
-        return Err(Stop::Bad(HeaderWhy::Passes));
+        return Err(HeaderStop::Bad(HeaderWhy::Passes));
     }
     lblock(Block { passes: 3, ..known }, step, source)
 }
 
 /// Reads the values from Lblock on: a one for each number that it is above 3, and a zero.
 #[inline(always)]
-fn lblock(known: Block, step: &mut Step, source: &mut Source<'_>) -> Result<Block, Stop>
+fn lblock(known: Block, step: &mut Step, source: &mut Source<'_>) -> Result<Block, HeaderStop>
     requires within { source.old.at ≤ length source.old.piece.now }
     requires own { IsOfRun true source.old.bits.part }
-    ensures reads { ReadsFrom (position_of known) (Step.Lblock known.planes known.passes) step.new source.old source.new result }
+    ensures reads { ReadsFrom (position_of known) (Step.Lblock known.planes known.passes)
+        step.new source.old source.new result }
     ensures fits { FitsBlock step.new source.new.bits.part result }
     ensures within { source.new.at ≤ length source.new.piece.now }
     ensures piece { source.new.piece.now ≡ source.old.piece.now }
@@ -106,9 +112,9 @@ fn lblock(known: Block, step: &mut Step, source: &mut Source<'_>) -> Result<Bloc
         planes: known.planes,
         passes: known.passes,
     };
-    let ones = source.run(true, MOST_ONES)?;
+    let ones = source::run(true, MOST_ONES, source)?;
     if ones >= MOST_ONES {
-        return Err(Stop::Bad(HeaderWhy::LengthBits));
+        return Err(HeaderStop::Bad(HeaderWhy::LengthBits));
     }
     cleanup(known, LEAST_LBLOCK + ones, step, source)
 }
@@ -120,11 +126,12 @@ fn cleanup(
     lblock: u8,
     step: &mut Step,
     source: &mut Source<'_>,
-) -> Result<Block, Stop>
+) -> Result<Block, HeaderStop>
     requires within { source.old.at ≤ length source.old.piece.now }
     requires low { lblock ≤ 24 }
     requires own { IsOfNumber lblock source.old.bits.part }
-    ensures reads { ReadsFrom (position_of known) (Step.Cleanup known.planes known.passes lblock) step.new source.old source.new result }
+    ensures reads { ReadsFrom (position_of known) (Step.Cleanup known.planes known.passes lblock)
+        step.new source.old source.new result }
     ensures fits { FitsBlock step.new source.new.bits.part result }
     ensures within { source.new.at ≤ length source.new.piece.now }
     ensures piece { source.new.piece.now ≡ source.old.piece.now }
@@ -134,12 +141,12 @@ fn cleanup(
         passes: known.passes,
         lblock,
     };
-    let length = source.number(lblock)?;
+    let length = source::number(lblock, source)?;
     if length < LEAST_CLEANUP {
-        return Err(Stop::Bad(HeaderWhy::CleanupShort));
+        return Err(HeaderStop::Bad(HeaderWhy::CleanupShort));
     }
     if length >= CLEANUP_END {
-        return Err(Stop::Bad(HeaderWhy::CleanupLong));
+        return Err(HeaderStop::Bad(HeaderWhy::CleanupLong));
     }
     refine(
         Block {
@@ -154,12 +161,19 @@ fn cleanup(
 
 /// Reads the length of the refinement segment, 0 to 2,046; with one pass there is none.
 #[inline(always)]
-fn refine(known: Block, lblock: u8, step: &mut Step, source: &mut Source<'_>) -> Result<Block, Stop>
+fn refine(
+    known: Block,
+    lblock: u8,
+    step: &mut Step,
+    source: &mut Source<'_>,
+) -> Result<Block, HeaderStop>
     requires within { source.old.at ≤ length source.old.piece.now }
     requires low { lblock ≤ 24 }
     requires none { known.passes ≤ 1 → IsFree source.old.bits }
-    requires own { 2 ≤ known.passes → IsOfNumber (refine_width known.passes lblock) source.old.bits.part }
-    ensures reads { ReadsFrom (position_of known) (Step.Refine known.planes known.passes lblock known.cleanup) step.new source.old source.new result }
+    requires own { 2 ≤ known.passes
+        → IsOfNumber (refine_width known.passes lblock) source.old.bits.part }
+    ensures reads { ReadsFrom (position_of known)
+        (Step.Refine known.planes known.passes lblock known.cleanup) step.new source.old source.new result }
     ensures fits { FitsBlock step.new source.new.bits.part result }
     ensures within { source.new.at ≤ length source.new.piece.now }
     ensures piece { source.new.piece.now ≡ source.old.piece.now }
@@ -173,9 +187,9 @@ fn refine(known: Block, lblock: u8, step: &mut Step, source: &mut Source<'_>) ->
         lblock,
         cleanup: known.cleanup,
     };
-    let length = source.number(refine_bits(known.passes, lblock))?;
+    let length = source::number(refine_bits(known.passes, lblock), source)?;
     if length >= REFINE_END {
-        return Err(Stop::Bad(HeaderWhy::RefineLong));
+        return Err(HeaderStop::Bad(HeaderWhy::RefineLong));
     }
     Ok(Block {
         refine: length,
@@ -185,25 +199,19 @@ fn refine(known: Block, lblock: u8, step: &mut Step, source: &mut Source<'_>) ->
 
 /// Reads the values of a code-block from a step on, and keeps in it where the reading stops.
 #[inline(always)]
-pub fn values(
-    step: &mut Step,
-    band: u8,
-    col: u32,
-    row: u32,
-    source: &mut Source<'_>,
-) -> Result<Block, Stop>
+pub fn values(step: &mut Step, at: Position, source: &mut Source<'_>) -> Result<Block, HeaderStop>
     requires within { source.old.at ≤ length source.old.piece.now }
     requires fits { Fits step.old source.old.bits.part }
     requires of_block { IsOfBlock step.old }
-    ensures reads { ReadsFrom (record { band = band; col = col; row = row }) step.old step.new source.old source.new result }
+    ensures reads { ReadsFrom (seat_at at) step.old step.new source.old source.new result }
     ensures fits { FitsBlock step.new source.new.bits.part result }
     ensures within { source.new.at ≤ length source.new.piece.now }
     ensures piece { source.new.piece.now ≡ source.old.piece.now }
 {
     let none = Block {
-        band,
-        col,
-        row,
+        band: at.band,
+        col: at.col,
+        row: at.row,
         planes: 0,
         passes: 0,
         cleanup: 0,

@@ -1,8 +1,8 @@
-//! Code-blocks that wait for their seats, in header order.
+//! Code-blocks that are taken in header order.
 ghost use Rattle.std.specs.Prelude.{◌≡◌, ◌↔◌, [], map, IsTrue};
-ghost use Rattle.codestream_model.specs.TagTrees.{Seat};
 ghost use Rattle.packet_header.specs.Answers.{block_of};
-ghost use Rattle.packet_header.specs.Queues.{waiting, TakesAt};
+ghost use Rattle.packet_header.specs.Positions.{position_at};
+ghost use Rattle.packet_header.specs.Queues.{remaining, TakesAt};
 
 use crate::block::Block;
 
@@ -15,16 +15,17 @@ pub struct Queue<'a> {
 }
 
 impl<'a> Queue<'a> {
-    /// All of these wait.
+    /// A queue of all of these.
     pub fn new(blocks: &'a [Block]) -> Queue<'a>
-        ensures { waiting result ≡ map block_of blocks.now }
+        ensures { remaining result ≡ map block_of blocks.now }
     {
         Queue { blocks, at: 0 }
     }
 
-    /// Takes the next code-block, if it stands at this seat.
+    /// Takes the next code-block, if it is at this position.
     pub fn take_at(&mut self, band: u8, col: u32, row: u32) -> Option<Block>
-        ensures { TakesAt (record { band = band; col = col; row = row }) (waiting self.old) (waiting self.new) result }
+        ensures { TakesAt (position_at band col row)
+            (remaining self.old) (remaining self.new) result }
     {
         if self.at >= self.blocks.len() {
             return None;
@@ -37,9 +38,9 @@ impl<'a> Queue<'a> {
         Some(block)
     }
 
-    /// Whether none waits.
+    /// Whether none remains.
     pub fn is_done(&self) -> bool
-        ensures { IsTrue result ↔ (waiting self.now ≡ []) }
+        ensures { IsTrue result ↔ (remaining self.now ≡ []) }
     {
         self.at >= self.blocks.len()
     }

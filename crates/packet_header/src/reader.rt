@@ -13,13 +13,12 @@ ghost use Rattle.packet_header.specs.Marked.{JudgesEph, NeedsMoreOfEph};
 use crate::block::Block;
 use crate::blocks::BlocksReader;
 use crate::marker::{EPH, end_eph};
-use crate::refusal::{HeaderOut, HeaderWhy, LONGEST, Stop};
-use crate::source::Source;
+use crate::refusal::{HeaderOut, HeaderStop, HeaderWhy, LONGEST};
 use precinct_geometry::Bands;
 use std::alloc::{AllocError, Global};
 use std::marker::Model;
 use std::mem;
-use stuffed_bits::BitIn;
+use stuffed_bits::{BitIn, Source};
 
 /// What is read next.
 #[derive(Clone, Copy, Debug, PartialEq, Eq)]
@@ -54,7 +53,15 @@ impl Model for HeaderReader {
 
     ghost Value = { ReaderState };
 
-    ghost view = { λ r. record { room = r.room; blocks = r.progress.blocks.items; eph = r.eph; stage = r.stage; progress = r.progress; bits = r.bits; fed = r.fed } };
+    ghost view = { λ r. record {
+      room = r.room;
+      blocks = r.progress.blocks.items;
+      eph = r.eph;
+      stage = r.stage;
+      progress = r.progress;
+      bits = r.bits;
+      fed = r.fed;
+    } };
 
     ghost invariant = { λ r. HasRoom r.room r.progress × (r.fed ≤ 65536) };
 }
@@ -99,7 +106,7 @@ impl HeaderReader {
     }
 
     /// Reads what is left of the header.
-    fn read_header(&mut self, front: &[u8]) -> Result<usize, Stop>
+    fn read_header(&mut self, front: &[u8]) -> Result<usize, HeaderStop>
         requires own_bands { HaveOwnBands (grids_of self.old) }
         requires ready { IsInHeader self.old }
         ensures read { ReadsOn self.old self.new front.now result }
@@ -194,11 +201,19 @@ impl HeaderReader {
         requires own_bands { HaveOwnBands (map grid_of bands.now.items) }
         requires room { block_count (map grid_of bands.now.items) ≤ self.old.room }
         ensures room { self.new.room ≡ self.old.room }
-        ensures judged { Tells (marked_header_of (map grid_of bands.now.items) eph bytes.now) result self.new.blocks }
-        ensures found { (used : ℕ) → result ≡ HeaderOut.Done used → SpellsMarkedHeader (map grid_of bands.now.items) eph (map block_of self.new.blocks) (take used bytes.now) }
-        ensures only { (blocks : List values.Block) (header more : List ℕ) → SpellsMarkedHeader (map grid_of bands.now.items) eph blocks header → bytes.now ≡ header ++ more → (result ≡ HeaderOut.Done (length header)) × (map block_of self.new.blocks ≡ blocks) }
-        ensures refused { (why : HeaderRefusal) → (result ≡ HeaderOut.Bad (why_of why)) ↔ RefusesMarkedHeader (map grid_of bands.now.items) eph bytes.now why }
-        ensures needs { (result ≡ HeaderOut.Need) ↔ NeedsMarkedHeaderBytes (map grid_of bands.now.items) eph bytes.now }
+        ensures judged { Tells (marked_header_of (map grid_of bands.now.items) eph bytes.now)
+            result self.new.blocks }
+        ensures found { (used : ℕ) → result ≡ HeaderOut.Done used
+            → SpellsMarkedHeader (map grid_of bands.now.items) eph (map block_of self.new.blocks)
+            (take used bytes.now) }
+        ensures only { (blocks : List values.Block) (header more : List ℕ)
+            → SpellsMarkedHeader (map grid_of bands.now.items) eph blocks header
+            → bytes.now ≡ header ++ more
+            → (result ≡ HeaderOut.Done (length header)) × (map block_of self.new.blocks ≡ blocks) }
+        ensures refused { (why : HeaderRefusal) → (result ≡ HeaderOut.Bad (why_of why))
+            ↔ RefusesMarkedHeader (map grid_of bands.now.items) eph bytes.now why }
+        ensures needs { (result ≡ HeaderOut.Need)
+            ↔ NeedsMarkedHeaderBytes (map grid_of bands.now.items) eph bytes.now }
         ensures fed { result ≡ HeaderOut.Need → IsFed self.new bytes.now }
         ensures grids { grids_of self.new ≡ map grid_of bands.now.items }
         ensures eph { self.new.eph ≡ eph }

@@ -2,6 +2,9 @@
 ghost use Rattle.std.specs.Prelude.{◌≡◌, Option};
 ghost use Rattle.packet_header.specs.Answers.{out_at};
 
+use stuffed_bits::Stop;
+use tag_tree::LabelStop;
+
 /// Why bytes are no packet header. Each reason has the bit that decides it, and all before that bit is sound.
 #[derive(Clone, Copy, Debug, PartialEq, Eq)]
 pub enum HeaderWhy {
@@ -36,10 +39,10 @@ pub enum HeaderOut {
     Bad(HeaderWhy),
 }
 
-/// Why no further value is read.
+/// Why no further value of a header is read.
 #[derive(Clone, Copy, Debug, PartialEq, Eq)]
-pub enum Stop {
-    /// The bytes are at their end.
+pub enum HeaderStop {
+    /// The bytes are at their end, and a further piece goes on.
     Need,
     /// The bytes are refused.
     Bad(HeaderWhy),
@@ -48,15 +51,44 @@ pub enum Stop {
 /// The most bytes that a packet header may have.
 pub const LONGEST: usize = 65_536;
 
-impl Stop {
-    /// The answer for so many bytes.
+impl From<Stop> for HeaderStop {
+    ghost use Rattle.std.specs.Prelude.{◌≡◌};
+    ghost use Rattle.packet_header.specs.Answers.{stop_of};
+
+    ghost from_gives = { λ stop e. e ≡ stop_of stop };
+
+    fn from(stop: Stop) -> HeaderStop {
+        match stop {
+            Stop::Need => HeaderStop::Need,
+            Stop::Stuffed => HeaderStop::Bad(HeaderWhy::Stuffed),
+        }
+    }
+}
+
+impl From<LabelStop> for HeaderStop {
+    ghost use Rattle.std.specs.Prelude.{◌≡◌};
+    ghost use Rattle.packet_header.specs.Answers.{label_stop_of};
+
+    ghost from_gives = { λ stop e. e ≡ label_stop_of stop };
+
+    fn from(stop: LabelStop) -> HeaderStop {
+        match stop {
+            LabelStop::Need => HeaderStop::Need,
+            LabelStop::Stuffed => HeaderStop::Bad(HeaderWhy::Stuffed),
+            LabelStop::TooGreat => HeaderStop::Bad(HeaderWhy::ZeroPlanes),
+        }
+    }
+}
+
+impl HeaderStop {
+    /// The answer where `bytes` bytes of the header were fed.
     pub fn out(self, bytes: usize) -> HeaderOut
         ensures { result ≡ out_at bytes self }
     {
         match self {
-            Stop::Bad(why) => HeaderOut::Bad(why),
-            Stop::Need if bytes < LONGEST => HeaderOut::Need,
-            Stop::Need => HeaderOut::Bad(HeaderWhy::TooLong),
+            HeaderStop::Bad(why) => HeaderOut::Bad(why),
+            HeaderStop::Need if bytes < LONGEST => HeaderOut::Need,
+            HeaderStop::Need => HeaderOut::Bad(HeaderWhy::TooLong),
         }
     }
 }

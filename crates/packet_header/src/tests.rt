@@ -44,7 +44,7 @@ fn higher(hl: (u32, u32), lh: (u32, u32), hh: (u32, u32)) -> Bands
     bands
 }
 
-/// Bytes, and what is read of them: of a precinct with one grid of so many columns and rows.
+/// Bytes, and what is read of them: of a precinct with one grid of these columns and rows.
 #[derive(Clone, Copy)]
 struct Case {
     cols: u8,
@@ -313,7 +313,7 @@ fn each_band_has_trees_of_its_own(rt: HostRuntime) -> Result<(), AllocError> {
 /// What a buffer holds where nothing was written.
 const BLANK: [u8; 24] = [0x55; 24];
 
-/// Whether these code-blocks have this header, the bytes behind it stay, and a shorter buffer is full.
+/// Whether these code-blocks have this header, the bytes after it stay, and a shorter buffer is full.
 fn is_written(alloc: Global, bands: &Bands, blocks: &[Block], header: &[u8]) -> bool
     requires own_bands { HaveOwnBands (map grid_of bands.now.items) }
     requires few { block_count (map grid_of bands.now.items) ≤ 65536 }
@@ -468,12 +468,12 @@ fn long_buffer(alloc: Global) -> Result<Vec<u8>, AllocError> {
     vec![in alloc; 0x55u8; 70_000]
 }
 
-/// The first of these bytes, so many or all.
+/// The first `size` of these bytes, or all.
 fn front(bytes: &[u8], size: usize) -> &[u8] {
     &bytes[..size.min(bytes.len())]
 }
 
-/// What is read of so many bytes.
+/// What is read of the first `size` bytes.
 fn read_front(
     alloc: Global,
     bands: &Bands,
@@ -521,7 +521,8 @@ fn a_header_of_65_536_code_blocks_is_read_back(rt: HostRuntime) -> Result<(), Pu
     Ok(())
 }
 
-/// Writes the header of 256 columns and rows of code-blocks, of which so many, the first ones, have a longer cleanup segment.
+/// Writes the header of 256 columns and rows of code-blocks, of which the first `longer` have a longer
+/// cleanup segment.
 fn write_many(alloc: Global, longer: usize, eph: bool, buf: &mut [u8]) -> Result<usize, PutFault> {
     let mut blocks = Vec::new(alloc);
     include_all(&mut blocks, 0, 256, 256)?;

@@ -1,19 +1,18 @@
 //! Packet headers written: the code-blocks that are included, with the least labels and the least Lblocks.
-ghost use Rattle.std.specs.Prelude.{◌≡◌, ◌≢◌, ◌≤◌, ◌<◌, ◌+◌, ◌*◌, ◌++◌, List, [], ◌∷◌, map, length, take, drop, Option, true, IfOk, IfSome};
+ghost use Rattle.std.specs.Prelude.{◌≡◌, ◌≢◌, ◌≤◌, ◌<◌, ◌+◌, ◌*◌, ◌++◌, [], ◌∷◌, map, length, take, drop, true, IfOk, IfSome};
 ghost use Rattle.std.specs.List.{AllByRecursion};
-ghost use Rattle.codestream_model.specs.TagTrees.{Seat, Labels, seats};
-ghost use Rattle.codestream_model.specs.HeaderPieces.{bits_of, header_pieces};
+ghost use Rattle.codestream_model.specs.TagTrees.{seats};
 ghost use Rattle.codestream_model.specs.Packet.{block_count};
-ghost use Rattle.codestream_model.specs.PacketHeader.{HaveOwnBands, AreBlocks, IsWithinLimits, SpellsHeader, least_choices, least_lblock, written_bits, written_header};
+ghost use Rattle.codestream_model.specs.PacketHeader.{HaveOwnBands, AreBlocks, IsWithinLimits, SpellsHeader, written_bits, written_header};
 ghost use Rattle.codestream_model.specs.MarkedHeader.{end_marker, SpellsMarkedHeader, written_marked_header};
 ghost use Rattle.precinct_geometry.specs.Spans.{grid_of};
 ghost use Rattle.tag_tree.specs.LeafReading.{IsSameShape};
-ghost use Rattle.tag_tree.specs.LeafWriting.{grid_of as tree_grid, Holds, HasMet, MeetsLeaf, Writes, leaf_bits, value_step};
+ghost use Rattle.tag_tree.specs.LeafWriting.{MeetsLeaf};
 ghost use Rattle.packet_header.specs.Answers.{block_of};
-ghost use Rattle.packet_header.specs.Seats.{HasGrid, row_seats};
-ghost use Rattle.packet_header.specs.Queues.{waiting};
-ghost use Rattle.packet_header.specs.Puts.{Fills, Onward, value_bits};
-ghost use Rattle.packet_header.specs.SeatsWritten.{SitsOn, Waits, PutsSeats, GridPut};
+ghost use Rattle.packet_header.specs.Positions.{HasGrid, position_at, row_seats};
+ghost use Rattle.packet_header.specs.Queues.{remaining};
+ghost use Rattle.packet_header.specs.Puts.{Fills, Onward};
+ghost use Rattle.packet_header.specs.PositionsWritten.{AreOnGrid, PutsPositions, PutsGrid, PutsBlock, grids_bits, IsAtStart};
 
 use crate::block::Block;
 use crate::block_bits::put_values;
@@ -34,9 +33,11 @@ impl TagTrees {
         requires col_in { block.now.col < self.old.planes.cols }
         requires row_in { block.now.row < self.old.planes.rows }
         requires inside { bits.old.len ≤ length buf.old }
-        ensures bits { (labels : Labels) (earlier : List Seat) → Holds self.old.planes labels → HasMet self.old.planes earlier → Writes (leaf_bits value_step (tree_grid self.old.planes) labels earlier (record { band = 0; col = block.now.col; row = block.now.row }) ++ value_bits (least_lblock (block_of block.now)) (block_of block.now)) bits.old bits.new buf.old buf.new result }
+        ensures bits { PutsBlock (block_of block.now) self.old.planes bits.old bits.new
+            buf.old buf.new result }
         ensures goes { Onward bits.old bits.new buf.old buf.new }
-        ensures met { IfOk result (λ _. MeetsLeaf block.now.col block.now.row self.old.planes self.new.planes) }
+        ensures met { IfOk result (λ _.
+            MeetsLeaf block.now.col block.now.row self.old.planes self.new.planes) }
         ensures labels { self.new.planes.labels ≡ self.old.planes.labels }
         ensures same { IsSameShape self.old.planes self.new.planes }
         ensures inclusion { self.new.inclusion ≡ self.old.inclusion }
@@ -45,8 +46,8 @@ impl TagTrees {
         put_values(block, bits, buf)
     }
 
-    /// Puts what a header says of the code-block at a seat: whether it is included, and the next one that waits if it stands there.
-    fn put_seat(
+    /// Puts what a header says of the code-block at a position: whether it is included, and the next one that remains if it is there.
+    fn put_at(
         &mut self,
         grid: Grid,
         col: u32,
@@ -58,12 +59,14 @@ impl TagTrees {
         requires same { HasGrid self.old grid.cols grid.rows }
         requires col_in { col < grid.cols }
         requires row_in { row < grid.rows }
-        requires limits { AllByRecursion IsWithinLimits (waiting queue.old) }
+        requires limits { AllByRecursion IsWithinLimits (remaining queue.old) }
         requires inside { bits.old.len ≤ length buf.old }
-        ensures bits { PutsSeats (grid_of grid) (record { band = grid.band; col = col; row = row } ∷ []) self.old self.new (waiting queue.old) (waiting queue.new) bits.old bits.new buf.old buf.new result }
+        ensures bits { PutsPositions (grid_of grid) (position_at grid.band col row ∷ [])
+            self.old self.new (remaining queue.old) (remaining queue.new)
+            bits.old bits.new buf.old buf.new result }
         ensures goes { Onward bits.old bits.new buf.old buf.new }
         ensures same { HasGrid self.new grid.cols grid.rows }
-        ensures limits { AllByRecursion IsWithinLimits (waiting queue.new) }
+        ensures limits { AllByRecursion IsWithinLimits (remaining queue.new) }
     {
         self.inclusion.write_inclusion(col, row, bits, buf)?;
         match queue.take_at(grid.band, col, row) {
@@ -83,15 +86,17 @@ impl TagTrees {
     ) -> Result<(), Full>
         requires same { HasGrid self.old grid.cols grid.rows }
         requires row_in { row < grid.rows }
-        requires limits { AllByRecursion IsWithinLimits (waiting queue.old) }
+        requires limits { AllByRecursion IsWithinLimits (remaining queue.old) }
         requires inside { bits.old.len ≤ length buf.old }
-        ensures bits { PutsSeats (grid_of grid) (row_seats grid.band grid.cols row) self.old self.new (waiting queue.old) (waiting queue.new) bits.old bits.new buf.old buf.new result }
+        ensures bits { PutsPositions (grid_of grid) (row_seats grid.band grid.cols row)
+            self.old self.new (remaining queue.old) (remaining queue.new)
+            bits.old bits.new buf.old buf.new result }
         ensures goes { Onward bits.old bits.new buf.old buf.new }
         ensures same { HasGrid self.new grid.cols grid.rows }
-        ensures limits { AllByRecursion IsWithinLimits (waiting queue.new) }
+        ensures limits { AllByRecursion IsWithinLimits (remaining queue.new) }
     {
         for col in 0..grid.cols {
-            self.put_seat(grid, col, row, queue, bits, buf)?;
+            self.put_at(grid, col, row, queue, bits, buf)?;
         }
         Ok(())
     }
@@ -105,11 +110,13 @@ impl TagTrees {
         buf: &mut [u8],
     ) -> Result<(), Full>
         requires same { HasGrid self.old grid.cols grid.rows }
-        requires limits { AllByRecursion IsWithinLimits (waiting queue.old) }
+        requires limits { AllByRecursion IsWithinLimits (remaining queue.old) }
         requires inside { bits.old.len ≤ length buf.old }
-        ensures bits { PutsSeats (grid_of grid) (seats (grid_of grid)) self.old self.new (waiting queue.old) (waiting queue.new) bits.old bits.new buf.old buf.new result }
+        ensures bits { PutsPositions (grid_of grid) (seats (grid_of grid))
+            self.old self.new (remaining queue.old) (remaining queue.new)
+            bits.old bits.new buf.old buf.new result }
         ensures goes { Onward bits.old bits.new buf.old buf.new }
-        ensures limits { AllByRecursion IsWithinLimits (waiting queue.new) }
+        ensures limits { AllByRecursion IsWithinLimits (remaining queue.new) }
     {
         for row in 0..grid.rows {
             self.put_row(grid, row, queue, bits, buf)?;
@@ -118,7 +125,7 @@ impl TagTrees {
     }
 }
 
-/// Puts what a header says of the code-blocks of a grid, which are the next of those that wait.
+/// Puts what a header says of the code-blocks of a grid, which are the next of those that remain.
 fn put_grid(
     alloc: Global,
     grid: Grid,
@@ -128,13 +135,14 @@ fn put_grid(
     buf: &mut [u8],
 ) -> Result<(), PutFault>
     requires small { grid.cols * grid.rows ≤ 65536 }
-    requires sits { SitsOn (grid_of grid) (map block_of blocks.now) }
-    requires limits { AllByRecursion IsWithinLimits (waiting queue.old) }
+    requires on_grid { AreOnGrid (grid_of grid) (map block_of blocks.now) }
+    requires limits { AllByRecursion IsWithinLimits (remaining queue.old) }
     requires inside { bits.old.len ≤ length buf.old }
-    ensures put { (rest : List Seat) → Waits (map block_of blocks.now) (seats (grid_of grid) ++ rest) (waiting queue.old) → GridPut (grid_of grid) (map block_of blocks.now) rest (waiting queue.new) bits.old bits.new buf.old buf.new result }
+    ensures put { PutsGrid (grid_of grid) (map block_of blocks.now)
+        (remaining queue.old) (remaining queue.new) bits.old bits.new buf.old buf.new result }
     ensures fault { result ≢ Err PutFault.Blocks }
     ensures goes { Onward bits.old bits.new buf.old buf.new }
-    ensures limits { AllByRecursion IsWithinLimits (waiting queue.new) }
+    ensures limits { AllByRecursion IsWithinLimits (remaining queue.new) }
 {
     let mut trees = trees_of(alloc, grid, blocks)?;
     trees.put_rows(grid, queue, bits, buf)?;
@@ -153,7 +161,8 @@ fn put_grids(
     requires few { block_count (map grid_of grids.now) ≤ 65536 }
     requires blocks { AreBlocks (map grid_of grids.now) (map block_of blocks.now) }
     requires inside { bits.old.len ≤ length buf.old }
-    ensures bits { Fills (bits_of (header_pieces (map grid_of grids.now) (least_choices (map block_of blocks.now)) (map block_of blocks.now))) bits.old bits.new buf.old buf.new result }
+    ensures bits { Fills (grids_bits (map grid_of grids.now) (map block_of blocks.now))
+        bits.old bits.new buf.old buf.new result }
     ensures fault { result ≢ Err PutFault.Blocks }
     ensures goes { Onward bits.old bits.new buf.old buf.new }
 {
@@ -176,7 +185,8 @@ fn put_header(
     requires few { block_count (map grid_of grids.now) ≤ 65536 }
     requires blocks { AreBlocks (map grid_of grids.now) (map block_of blocks.now) }
     requires inside { bits.old.len ≤ length buf.old }
-    ensures bits { Fills (written_bits (map grid_of grids.now) (map block_of blocks.now)) bits.old bits.new buf.old buf.new result }
+    ensures bits { Fills (written_bits (map grid_of grids.now) (map block_of blocks.now))
+        bits.old bits.new buf.old buf.new result }
     ensures fault { result ≢ Err PutFault.Blocks }
     ensures begun { IfOk result (λ _. 0 < bits.new.len) }
     ensures goes { Onward bits.old bits.new buf.old buf.new }
@@ -198,13 +208,20 @@ fn write_plain(
 ) -> Result<usize, PutFault>
     requires own_bands { HaveOwnBands (map grid_of bands.now.items) }
     requires few { block_count (map grid_of bands.now.items) ≤ 65536 }
-    ensures blocks { result ≡ Err PutFault.Blocks → (¬ AreBlocks (map grid_of bands.now.items) (map block_of blocks.now)) × (buf.new ≡ buf.old) }
-    ensures judged { result ≢ Err PutFault.Blocks → AreBlocks (map grid_of bands.now.items) (map block_of blocks.now) }
-    ensures full { result ≡ Err PutFault.Full → length buf.old < length (written_header (map grid_of bands.now.items) (map block_of blocks.now)) }
-    ensures written { IfOk result (λ n. (n ≡ length (written_header (map grid_of bands.now.items) (map block_of blocks.now))) × (take n buf.new ≡ written_header (map grid_of bands.now.items) (map block_of blocks.now))) }
+    ensures blocks { result ≡ Err PutFault.Blocks
+        → (¬ AreBlocks (map grid_of bands.now.items) (map block_of blocks.now))
+        × (buf.new ≡ buf.old) }
+    ensures judged { result ≢ Err PutFault.Blocks
+        → AreBlocks (map grid_of bands.now.items) (map block_of blocks.now) }
+    ensures full { result ≡ Err PutFault.Full → length buf.old
+        < length (written_header (map grid_of bands.now.items) (map block_of blocks.now)) }
+    ensures written { IfOk result (λ n.
+        IsAtStart (written_header (map grid_of bands.now.items) (map block_of blocks.now))
+        n buf.new) }
     ensures fits { IfOk result (λ n. n ≤ length buf.old) }
-    ensures behind { IfOk result (λ n. drop n buf.new ≡ drop n buf.old) }
-    ensures says { IfOk result (λ n. n ≤ 65536 → SpellsHeader (map grid_of bands.now.items) (map block_of blocks.now) (take n buf.new)) }
+    ensures beyond { IfOk result (λ n. drop n buf.new ≡ drop n buf.old) }
+    ensures says { IfOk result (λ n. n ≤ 65536
+        → SpellsHeader (map grid_of bands.now.items) (map block_of blocks.now) (take n buf.new)) }
 {
     let grids = bands.as_slice();
     if !are_blocks(grids, blocks) {
@@ -219,7 +236,11 @@ fn write_plain(
 fn put_eph(used: usize, buf: &mut [u8]) -> Option<usize>
     requires { used ≤ length buf.old }
     ensures none { result ≡ None → (length buf.old < used + 2) × (buf.new ≡ buf.old) }
-    ensures written { IfSome result (λ n. (n ≡ used + 2) × (used + 2 ≤ length buf.old) × (take n buf.new ≡ take used buf.old ++ end_marker true) × (drop n buf.new ≡ drop n buf.old)) }
+    ensures written { IfSome result (λ n.
+        (n ≡ used + 2)
+        × (used + 2 ≤ length buf.old)
+        × (take n buf.new ≡ take used buf.old ++ end_marker true)
+        × (drop n buf.new ≡ drop n buf.old)) }
 {
     if buf.len() - used < 2 {
         return None;
@@ -250,13 +271,21 @@ pub fn write_header(
 ) -> Result<usize, PutFault>
     requires own_bands { HaveOwnBands (map grid_of bands.now.items) }
     requires few { block_count (map grid_of bands.now.items) ≤ 65536 }
-    ensures blocks { result ≡ Err PutFault.Blocks → (¬ AreBlocks (map grid_of bands.now.items) (map block_of blocks.now)) × (buf.new ≡ buf.old) }
-    ensures judged { result ≢ Err PutFault.Blocks → AreBlocks (map grid_of bands.now.items) (map block_of blocks.now) }
-    ensures full { result ≡ Err PutFault.Full → length buf.old < length (written_marked_header (map grid_of bands.now.items) eph (map block_of blocks.now)) }
-    ensures written { IfOk result (λ n. (n ≡ length (written_marked_header (map grid_of bands.now.items) eph (map block_of blocks.now))) × (take n buf.new ≡ written_marked_header (map grid_of bands.now.items) eph (map block_of blocks.now))) }
+    ensures blocks { result ≡ Err PutFault.Blocks
+        → (¬ AreBlocks (map grid_of bands.now.items) (map block_of blocks.now))
+        × (buf.new ≡ buf.old) }
+    ensures judged { result ≢ Err PutFault.Blocks
+        → AreBlocks (map grid_of bands.now.items) (map block_of blocks.now) }
+    ensures full { result ≡ Err PutFault.Full → length buf.old
+        < length (written_marked_header (map grid_of bands.now.items) eph (map block_of blocks.now)) }
+    ensures written { IfOk result (λ n.
+        IsAtStart (written_marked_header (map grid_of bands.now.items) eph (map block_of blocks.now))
+        n buf.new) }
     ensures fits { IfOk result (λ n. n ≤ length buf.old) }
-    ensures behind { IfOk result (λ n. drop n buf.new ≡ drop n buf.old) }
-    ensures says { IfOk result (λ n. n ≤ 65536 → SpellsMarkedHeader (map grid_of bands.now.items) eph (map block_of blocks.now) (take n buf.new)) }
+    ensures beyond { IfOk result (λ n. drop n buf.new ≡ drop n buf.old) }
+    ensures says { IfOk result (λ n. n ≤ 65536
+        → SpellsMarkedHeader (map grid_of bands.now.items) eph (map block_of blocks.now)
+        (take n buf.new)) }
 {
     let used = write_plain(alloc, bands, blocks, buf)?;
     if !eph {

@@ -1,4 +1,4 @@
--- What stands so between any two elements of a list does in each order of it.
+-- What holds between any two elements of a list does in each order of it.
 use Rattle.std.proofs.Common.{◌≡◌, ◌<◌, ℕ, List, length, get_or, inl, inr, refl, arith}
 use Rattle.std.specs.List.{swap, AllPairs}
 use Rattle.std.specs.List.Sorted.{IsPermutation}
@@ -6,11 +6,11 @@ use Rattle.std.proofs.lemmas.Bool.{cases_eq, cases_lt}
 use Rattle.std.proofs.lemmas.List.Edits.{swapped_from_swap, length-swap}
 use Rattle.std.proofs.lemmas.List.Sorted.{IsPermutation-keeps}
 
--- the elements at any two places stand so
+-- it holds of the elements at any two places
 abbrev pub AreApart : {X : Type 0} → (X → X → Type 0) → List X → Type 0
 AreApart {X} R xs = (i j : ℕ) (d : X) → (i ≡ j → ⊥) → i < length xs → j < length xs → R (get_or xs i d) (get_or xs j d)
 
--- where the element at a place stood before those at a and b were exchanged
+-- where the element at a place was before those at a and b were exchanged
 data From (a b i j : ℕ) : Type 0 where
   First : i ≡ a → j ≡ b → From a b i j
   Second : i ≡ b → j ≡ a → From a b i j

@@ -1,4 +1,4 @@
--- The precincts behind one in the packet order: what makes one the next, the first or the last.
+-- The precincts after one in the packet order: what makes one the next, the first or the last.
 use Rattle.std.proofs.Common.{◌≡◌, ◌&&◌, ◌||◌, ℕ, Bool, true, false, List, [], ◌∷◌, ◌++◌, ltb, eqb, refl, sym, ◌∙◌, ap, subst, inl, inr}
 use Rattle.std.specs.List.{filter}
 use Rattle.std.proofs.lemmas.Bool.{cases_Bool, ltb-true, eqb-true, or_cases, and_parts, lt-ltb, eq-eqb}
@@ -71,7 +71,7 @@ precinct_of h steps z m = ((packet_order_is_computed h steps).each z).0 (contain
 precinct_in : (h : Head) → HasSteps h → (z : Place) → IsPrecinct h z → Has (packet_order h) z
 precinct_in h steps z is = has_contained (packet_order h) z (((packet_order_is_computed h steps).each z).1 is)
 
--- what is behind one
+-- what is after one
 pub later_has : (h : Head) → HasSteps h → (p z : Place) → Has (later h p) z → IsPrecinct h z × Precedes h p z
 later_has h steps p z m =
     let r = filter_has (λ q. is_before (key h p) (key h q)) (packet_order h) z m in
@@ -83,7 +83,7 @@ has_later h steps p z is before = has_filter (λ q. is_before (key h p) (key h q
 later_ascends : (h : Head) → HasSteps h → (p : Place) → Ascends (Precedes h) (later h p)
 later_ascends h steps p = filter_ascends (Precedes h) (λ q. is_before (key h p) (key h q)) (packet_order h) (order_ascends h steps)
 
--- one, and what is behind it, ascends
+-- one, and what is after it, ascends
 one_and_later : (h : Head) → HasSteps h → (q : Place) → Ascends (Precedes h) (q ∷ later h q)
 one_and_later h steps q = (each_member (Precedes h q) (later h q) (λ z m. (later_has h steps q z m).1), later_ascends h steps q)
 
@@ -103,7 +103,7 @@ from_one h steps q places up is there each back = one_ascending (Precedes h) (λ
       | inr more ↦ let r = later_has h steps q z more in back z r.0 r.1
     ])
 
--- the least behind one is the next,
+-- the least after one is the next,
 pub is_next : (h : Head) → HasSteps h → (p q : Place) → IsPrecinct h q → Precedes h p q → ((z : Place) → IsPrecinct h z → Precedes h p z → IsUpTo (key h q) (key h z)) → later h p ≡ q ∷ later h q
 is_next h steps p q is before least = from_one h steps q (later h p) (later_ascends h steps p) is (has_later h steps p q is before)
     (λ z m. let r = later_has h steps p z m in (r.0, least z r.0 r.1))
@@ -115,20 +115,20 @@ is_first h steps q is least = from_one h steps q (packet_order h) (order_ascends
     (λ z m. let iz = precinct_of h steps z m in (iz, least z iz))
     (λ z iz lt. precinct_in h steps z iz)
 
--- and one behind which there is none is the last
+-- and one after which there is none is the last
 pub is_last : (h : Head) → HasSteps h → (p : Place) → ((z : Place) → IsPrecinct h z → Precedes h p z → ⊥) → later h p ≡ []
 is_last h steps p none = no_member (later h p) (λ z m. let r = later_has h steps p z m in none z r.0 r.1) where
   no_member : (xs : List Place) → ((z : Place) → Has xs z → ⊥) → xs ≡ []
   no_member [] none = refl
   no_member (x ∷ xs) none = absurd (none x (inl refl))
 
--- a list has a member, something before it and something behind it
+-- a list has a member, something before it and something after it
 parts : {X : Type 0} (xs : List X) (z : X) → Has xs z → (before : List X) × (after : List X) × (xs ≡ before ++ z ∷ after)
 parts [] z m = absurd m
 parts (x ∷ xs) z (inl e) = ([], xs, rw e refl)
 parts (x ∷ xs) z (inr m) = let r = parts xs z m in (x ∷ r.0, r.1, ap (λ l. x ∷ l) r.2)
 
--- where the list ascends, so does what is behind, and each before it stands so to the member
+-- where the list ascends, so does what is after, and each before it is related so to the member
 behind_ascends : {X : Type 0} (R : X → X → Type 0) (before : List X) (z : X) (after : List X) → Ascends R (before ++ z ∷ after) → Ascends R (z ∷ after)
 behind_ascends R [] z after up = up
 behind_ascends R (x ∷ before) z after up = behind_ascends R before z after up.1
@@ -138,7 +138,7 @@ before_stands R [] z after up a m = absurd m
 before_stands {X} R (x ∷ before) z after up a (inl e) = subst (λ (w : X). R w z) e (at_member (R x) (before ++ z ∷ after) z up.0 (has_right before (z ∷ after) z (inl refl)))
 before_stands R (x ∷ before) z after up a (inr m) = before_stands R before z after up.1 a m
 
--- the packet order has each precinct, and then what is behind it
+-- the packet order has each precinct, and then what is after it
 pub splits : (h : Head) → HasSteps h → (p : Place) → IsPrecinct h p → (before : List Place) × (packet_order h ≡ before ++ p ∷ later h p)
 splits h steps p is =
     let at = parts (packet_order h) p (precinct_in h steps p is) in
@@ -160,7 +160,7 @@ later_is_the_rest h order p steps is_order is =
     let at = splits h steps p is in
     (at.0, one ∙ at.1)
 
--- what is behind a precinct in it is what comes later
+-- what is after a precinct in it is what comes later
 pub places_from_one_on : PlacesFromOneOn
 places_from_one_on h before after p steps is_order =
     let list = before ++ p ∷ after in

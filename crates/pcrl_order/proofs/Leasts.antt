@@ -25,7 +25,7 @@ first_of_row rows columns row j i le =
       | inr ge ↦ inr (omega (arith, up, ge), over)
     ]
 
--- what stands from a row and a column on has no earlier row
+-- what is from a row and a column on has no earlier row
 row_from : (rows columns : Course) (y x there j i : ℕ) → IsFirstFrom rows y there → IsFrom y x (corner rows columns j i) → there ≤ j
 row_from rows columns y x there j i a (inl later) = (a j).0 (omega arith)
 row_from rows columns y x there j i a (inr beside) = (a j).0 (omega (arith, beside.0))
@@ -169,17 +169,17 @@ pub among_others : (h : Head) (from : List ℕ) (A B : Place → Type 0) (best :
 among_others h from A B None fewer none = λ z is b up. none z is (fewer z is b) up
 among_others h from A B (Some a) fewer least = record { is = least.is; anchored = least.anchored; onward = least.onward; least = λ z is b up. least.least z is (fewer z is b) up }
 
--- none is behind the first resolution of the first component,
+-- none is after the first resolution of the first component,
 pub none_behind : (h : Head) (from : List ℕ) → IsLeastOf h from (IsOfEarlier 0 0) None
 none_behind h from = λ z is behind up. elim behind [ inl lt ↦ omega arith | inr (e, lt) ↦ omega arith ]
 
--- those of a component are behind the next,
+-- those of a component are after the next,
 pub component_behind : (h : Head) (c r : ℕ) → r ≡ h.levels + 1 → (z : Place) → IsPrecinct h z → IsOfEarlier (c + 1) 0 z → IsOfEarlier c r z
 component_behind h c r e z is behind = elim behind [
   | inl lt ↦ elim (cases_lt z.c c) [ inl less ↦ inl less | inr ge ↦ inr (omega arith, omega (arith, is.resolution)) ]
   | inr (s, lt) ↦ absurd (omega arith)
 ]
 
--- and all are behind the last
+-- and all are after the last
 pub all_behind : (h : Head) (c : ℕ) → c ≡ length h.steps → (z : Place) → IsPrecinct h z → IsPrecinct h z → IsOfEarlier c 0 z
 all_behind h c e z is more = inl (omega (arith, is.component))

@@ -36,7 +36,7 @@ mapped_more {X} {Y} g f n old now next a b =
     let whole : map g (flat_map f (range_with_len 0 (n + 1))) ≡ map g parts ++ map g (f n) = ap (λ (t : List X). map g t) (parts_more f n) ∙ map-append g parts (f n) in
     b ∙ (ap (λ (t : List Y). t ++ map g (f n)) a ∙ (append_assoc old (map g parts) (map g (f n)) ∙ sym (ap (λ (t : List Y). old ++ t) whole)))
 
--- and where nothing stood before
+-- and where nothing was before
 pub mapped_all : {X Y : Type 0} (g : X → Y) (f : ℕ → List X) (n : ℕ) (now next : List Y)
     → now ≡ map g (flat_map f (range_with_len 0 n))
     → next ≡ now ++ map g (f n)

@@ -1,4 +1,4 @@
--- A step of the packet order: the least precinct from just behind one on is the next.
+-- A step of the packet order: the least precinct from just after one on is the next.
 use Rattle.std.proofs.Common.{◌≡◌, ◌≤◌, ◌+◌, ℕ, zero, suc, [], ◌∷◌, None, refl, inl, inr, arith}
 use Rattle.std.proofs.lemmas.Bool.{cases_lt}
 use Rattle.codestream_model.specs.Values.{Head, Place}
@@ -13,7 +13,7 @@ use Rattle.pcrl_order.specs.Least.{IsUpTo, IsLeast, IsLeastOf}
 use Rattle.pcrl_order.proofs.InOrder.{has_steps}
 use Rattle.pcrl_order.proofs.Behind.{is_next, is_first, is_last}
 
--- numbers behind others are those from the others with one more at the end on,
+-- numbers after others are those from the others with one more at the end on,
 pub up_to_more : (t y x c r v a b d s : ℕ) → IsBefore (t ∷ y ∷ x ∷ c ∷ r ∷ []) (v ∷ a ∷ b ∷ d ∷ s ∷ []) → IsUpTo (t ∷ y ∷ x ∷ c ∷ (r + 1) ∷ []) (v ∷ a ∷ b ∷ d ∷ s ∷ [])
 up_to_more t y x c r v a b d s (inl lt) = inl (inl lt)
 up_to_more t y x c r v a b d s (inr (q, inl lt)) = inl (inr (q, inl lt))
@@ -50,7 +50,7 @@ pub record IsJustAfter (h : Head) (p : Place) (t y x : ℕ) : Type 0 where
   pub y_is : y ≡ (anchor h p).y
   pub x_is : x ≡ (anchor h p).x
 
--- a precinct is behind another where its key is from just behind the other's on
+-- a precinct is after another where its key is from just after the other's on
 from_behind : (h : Head) (p z : Place) (t y x : ℕ) → IsJustAfter h p t y x → IsBefore (key h p) (key h z) → IsUpTo (t ∷ y ∷ x ∷ p.c ∷ (p.r + 1) ∷ []) (key h z)
 from_behind h p z t y x is before = rw (is.rank_is, is.y_is, is.x_is) (up_to_more (rank h p.r) (anchor h p).y (anchor h p).x p.c p.r (rank h z.r) (anchor h z).y (anchor h z).x z.c z.r before)
 

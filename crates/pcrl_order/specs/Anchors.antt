@@ -15,7 +15,7 @@ anchored_of h p = record { rank = rank h p.r; y = (anchor h p).y; x = (anchor h 
 abbrev pub place_in : Anchored → Place
 place_in a = record { c = a.c; r = a.r; k = a.k }
 
--- the precincts of so many resolutions of a component
+-- the precincts of the first n resolutions of a component
 abbrev pub component_places : Head → ℕ → ℕ → List Place
 component_places h c n = flat_map (λ r. places_of h c r) (range_with_len 0 n)
 

@@ -25,7 +25,7 @@ impl Model for OrderList {
 }
 
 impl OrderList {
-    /// The packet order of an image. `AllocError` for want of memory.
+    /// The packet order of an image. `AllocError` where memory ran out.
     pub fn build(alloc: Global, geometry: &Geometry) -> Result<OrderList, AllocError>
         ensures { IfOk result (λ list. IsPacketOrder geometry.now list) }
     {

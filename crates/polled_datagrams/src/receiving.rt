@@ -10,7 +10,7 @@ const BUFFER_LEN: usize = 9001;
 /// The answer of a poll for a datagram.
 #[derive(Clone, Copy, Debug, PartialEq, Eq)]
 pub enum Polled {
-    /// A datagram of this number of bytes; 9,001 stands for any longer one.
+    /// A datagram of this number of bytes; 9,001 represents any longer one.
     Ready(usize),
     /// None is there now.
     Pending,

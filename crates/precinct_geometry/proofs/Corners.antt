@@ -10,7 +10,7 @@ pub some_left : (a b k : ℕ) → k < a * b → 0 < a
 some_left zero b k h = absurd (omega arith)
 some_left (suc a) b k h = omega arith
 
--- the column of a number in so many columns and rows, and the row
+-- the column of a number in n columns and rows, and the row
 pub column_within : (cols rows k : ℕ) → k < cols * rows → k % cols < cols
 column_within cols rows k h = mod-lt k (some_left cols rows k h)
 

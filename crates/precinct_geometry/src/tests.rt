@@ -83,7 +83,7 @@ fn counts_as_walked(geometry: &Geometry, c: u8, r: u8) -> bool
     geometry.counts(c, r) == (columns, rows)
 }
 
-/// Whether each precinct of a resolution, and no number behind the last, is found by its number.
+/// Whether each precinct of a resolution, and no number after the last, is found by its number.
 fn numbers_as_counted(geometry: &Geometry, c: u8, r: u8) -> bool
     requires component { c < length geometry.now.steps }
     requires resolution { r ≤ geometry.now.levels }

@@ -132,6 +132,6 @@ left_sum blocks i d rest behind low f e =
     let m = length-drop ((get_or blocks i d).cleanup + (get_or blocks i d).refine) rest in
     omega (arith, s, e, n, m)
 
--- one more line, whole or a front of it
+-- one more line, whole or a prefix of it
 pub one_more : (all front own ahead more : List ℕ) → all ≡ front ++ ahead → ahead ≡ own ++ more → all ≡ (front ++ own) ++ more
 one_more all front own ahead more e f = e ∙ (ap (λ l. front ++ l) f ∙ sym (append_assoc front own more))

@@ -120,7 +120,7 @@ filter_first base (Some y ∷ s) b few e =
     ap (λ (c : Bool). if not c then entry base 0 y ∷ filter (λ h. not (h.number == base)) (entries base (0 + 1) s) else filter (λ h. not (h.number == base)) (entries base (0 + 1) s)) (first_test base b)
     ∙ filter_all base (0 + 1) s b (omega arith) (omega arith)
 
--- places behind the base are places of a later base
+-- places after the base are places of a later base
 pub entries_moved : {T : Type 0} (base count e : ℕ) (s : List (Option T)) → base < 2 ^ 24 → entries base (count + e) s ≡ entries ((base + count) % 2 ^ 24) e s
 entries_moved base count e [] b = refl
 entries_moved base count e (None ∷ s) b = let z : count + e + 1 ≡ count + (e + 1) = omega arith in ap (λ k. entries base k s) z ∙ entries_moved base count (e + 1) s b
@@ -136,7 +136,7 @@ entries-append base e [] t = let z : e ≡ e + 0 = omega arith in ap (λ k. entr
 entries-append base e (None ∷ s) t = let z : e + 1 + length s ≡ e + suc (length s) = omega arith in entries-append base (e + 1) s t ∙ ap (λ k. entries base (e + 1) s ++ entries base k t) z
 entries-append base e (Some x ∷ s) t = let z : e + 1 + length s ≡ e + suc (length s) = omega arith in ap (λ l. entry base e x ∷ l) (entries-append base (e + 1) s t ∙ ap (λ k. entries base (e + 1) s ++ entries base k t) z)
 
--- nothing stands in the places before the first that is filled
+-- nothing is in the places before the first that is filled
 pub entries-take : {T : Type 0} (base e k : ℕ) (s : List (Option T)) → k ≤ lead s → entries base e (take k s) ≡ []
 entries-take base e zero s le = refl
 entries-take base e (suc k) [] le = refl

@@ -26,7 +26,7 @@ base_low : (ob : Option ℕ) (due n : ℕ) (slots : List (Option (List ℕ))) �
 base_low None due n slots h low = low
 base_low (Some base) due n slots h low = h
 
--- what is held stands in the places behind it
+-- what is held is in the places after it
 held_is : (ob : Option ℕ) (due n : ℕ) (slots : List (Option (List ℕ))) → IsBase ob due slots → held_of ob slots ≡ entries (base_with n ob) 0 slots
 held_is None due n slots h = sym (ap (entries n 0) h.0 ∙ entries-replicate (List ℕ) n 0 (length slots))
 held_is (Some base) due n slots h = refl

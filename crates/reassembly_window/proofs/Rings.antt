@@ -11,7 +11,7 @@ use Rattle.reassembly_window.proofs.Rotations.{wraps, get_or-rotated, rotated-se
 slot_full : (x : Cell) → is_full (slot_of x) ≡ x.filled
 slot_full x = elim x.filled as (λ b. is_full (if b then Some x.bytes.items else None) ≡ b) [ true ↦ refl | false ↦ refl ]
 
--- what stands in a place
+-- what is in a place
 slot_at : (h d n : ℕ) (cells : List Cell) (x : Cell) → h < n → d < n → length cells ≡ n → x ≡ get_or cells (wrapped h d n) x → get_or (map slot_of (rotated h cells)) d (slot_of x) ≡ slot_of x
 slot_at h d n cells x low in_range len is =
     get_or-map slot_of (rotated h cells) d x (slot_of x) (omega (arith, length-rotated h cells, len))

@@ -11,7 +11,7 @@ wraps h d n low most = elim (cases_lt d (n - h)) [
   | inr t ↦ let e : nat_lt d (n - h) ≡ false = le-ltb d (n - h) t in inr (omega arith, ap (λ (b : Bool). if b then h + d else d - (n - h)) e)
 ]
 
--- what stands in a place
+-- what is in a place
 pub get_or-rotated : {A : Type 0} (h d n : ℕ) (xs : List A) (y : A) → h < n → d < n → length xs ≡ n → get_or (rotated h xs) d y ≡ get_or xs (wrapped h d n) y
 get_or-rotated h d n xs y low in_range len =
     let tail : length (drop h xs) ≡ n - h = length-drop h xs ∙ ap (λ k. k - h) len in
@@ -20,7 +20,7 @@ get_or-rotated h d n xs y low in_range len =
       | inr (past, e) ↦ get_or-append_right (drop h xs) (take h xs) (n - h) d y tail (omega arith) ∙ (get_or-take h xs (d - (n - h)) y (omega arith) ∙ sym (ap (λ k. get_or xs k y) e))
     ]
 
--- a front of a list that is written to
+-- a prefix of a list that is written to
 take_set : {A : Type 0} (h : ℕ) (xs : List A) (k : ℕ) (y : A) → take h (set xs k y) ≡ set (take h xs) k y
 take_set zero xs k y = refl
 take_set (suc h) [] k y = refl
@@ -43,7 +43,7 @@ rotated-set h d n xs y low in_range len =
           ∙ sym (set-append_right (drop h xs) (take h xs) (n - h) d y tail (omega arith)))
     ]
 
--- a front of nothing
+-- a prefix of nothing
 take_none : {A : Type 0} (d : ℕ) → take {A = A} d [] ≡ []
 take_none zero = refl
 take_none (suc d) = refl
@@ -54,7 +54,7 @@ take_sum zero d xs = let e : zero + d ≡ d = omega arith in ap (λ k. take k xs
 take_sum (suc h) d [] = let e : suc h + d ≡ suc (h + d) = omega arith in ap (λ k. take k []) e ∙ sym (take_none d)
 take_sum (suc h) d (x ∷ xs) = let e : suc h + d ≡ suc (h + d) = omega arith in ap (λ k. take k (x ∷ xs)) e ∙ ap (λ l. x ∷ l) (take_sum h d xs)
 
--- what stands behind a front
+-- what is after a front
 drop_in : {A : Type 0} (h k : ℕ) (xs : List A) → k ≤ h → drop k xs ≡ drop k (take h xs) ++ drop h xs
 drop_in h zero xs le = sym (take-append-drop h xs)
 drop_in zero (suc k) xs le = absurd (omega arith)

@@ -2,7 +2,7 @@
 use Rattle.std.proofs.Common.{◌≡◌, ◌<◌, ◌+◌, ℕ, zero, suc, true, false, List, [], ◌∷◌, length, take, drop, Option, Some, None, refl, sym, ◌∙◌, ap, arith}
 use Rattle.reassembly_window.specs.Slots.{is_filled, lead, reach, reach_after}
 
--- a place that isn't filled stands before the first that is
+-- a place that isn't filled is before the first that is
 lead_suc : {T : Type 0} (s : List (Option T)) (k : ℕ) → is_filled k s ≡ false → k < length s → lead (drop k s) ≡ lead (drop (suc k) s) + 1
 lead_suc [] k e less = absurd (omega arith)
 lead_suc (None ∷ s) zero e less = refl
@@ -18,7 +18,7 @@ lead_here (None ∷ s) zero e = absurd (cc)
 lead_here (Some x ∷ s) zero e = refl
 lead_here (x ∷ s) (suc k) e = lead_here s k e
 
--- and one that isn't behind the last that is
+-- and one that isn't after the last that is
 reach_suc : {T : Type 0} (s : List (Option T)) (k : ℕ) → is_filled k s ≡ false → k < length s → reach (take (suc k) s) ≡ reach (take k s)
 reach_suc [] k e less = absurd (omega arith)
 reach_suc (None ∷ s) zero e less = refl

@@ -1,9 +1,11 @@
 -- What `report` writes are readings of the frames that are kept.
 use Rattle.std.proofs.Common.{◌≡◌, ◌≢◌, ◌+◌, ◌*◌, ◌++◌, ℕ, zero, suc, true, false, List, [], ◌∷◌, length, take, drop, nat_le, refl, ◌∙◌, ap, subst, inl, inr, append_assoc, if◌then◌else◌}
 use Rattle.std.specs.List.{AllByRecursion}
+use Rattle.std.proofs.lemmas.List.{map-append}
 use Rattle.codestream_model.proofs.SegmentBytes.{bytes-take, bytes-drop}
 use Rattle.wire_model.specs.Bytes.{IsBytes}
 use Rattle.wire_model.specs.Framing.{first_frames, whole_frames}
+use Rattle.stream_model.specs.Decoder.{Release, precincts_released}
 use Rattle.stream_model.specs.Report.{Precinct, lines}
 use Rattle.stream_model.specs.ReadingLaws.{IsRead}
 use Rattle.stream_model.specs.Receiver.{Pick, received, flushed}
@@ -35,22 +37,23 @@ all_front P [] ys all = tt
 all_front P (x ∷ xs) ys all = (all.0, all_front P xs ys all.1)
 
 -- what the rules give of bytes, at their end
-given_at_end : (pick : Pick) (read : List ℕ) → IsBytes read → AreReadings pick read (flushed (received pick (whole_frames (counted read)))).precincts
+given_at_end : (pick : Pick) (read : List ℕ) → IsBytes read → AreReadings pick read (precincts_released (flushed (received pick (whole_frames (counted read)))).releases)
 given_at_end pick read are =
     let b = counted read in
     each_precinct_is_kept pick (whole_frames b) (first_are_bytes (length b) b (bytes-take 1099511627776 read are))
 
 -- and before it
-given_so_far : (pick : Pick) (read : List ℕ) → IsBytes read → AreReadings pick read (received pick (whole_frames (counted read))).precincts
+given_so_far : (pick : Pick) (read : List ℕ) → IsBytes read → AreReadings pick read (precincts_released (received pick (whole_frames (counted read))).releases)
 given_so_far pick read are =
     let r = received pick (whole_frames (counted read)) in
     let P : List Precinct → Type 0 = λ l. AreReadings pick read l in
     let stays = given_stays pick (whole_frames (counted read)) in
-    all_front (IsRead (kept_frames pick read)) r.precincts stays.0 (subst P stays.1 (given_at_end pick read are))
+    let all = ap precincts_released stays.1 ∙ map-append (λ (x : Release). x.precinct) r.releases stays.0 in
+    all_front (IsRead (kept_frames pick read)) (precincts_released r.releases) (precincts_released stays.0) (subst P all (given_at_end pick read are))
 
 -- what was written before the end
 lines_so_far : (pick : Pick) (f : Effects) → IsBytes f.read → f.written ≡ report_lines pick f.read false → WritesReadings pick f
-lines_so_far pick f are written = ((received pick (whole_frames (counted f.read))).precincts, given_so_far pick f.read are, written)
+lines_so_far pick f are written = (precincts_released (received pick (whole_frames (counted f.read))).releases, given_so_far pick f.read are, written)
 
 pub readings_so_far : ReadingsSoFar
 readings_so_far pick f are so = lines_so_far pick f are so.made
@@ -65,7 +68,7 @@ stopped_with pick status f some other (precincts, are_readings, written) = recor
   stopped = λ a b. written;
 }
 
--- a front of lines is a front of more
+-- a prefix of lines is a prefix of more
 longer : (text more written : List ℕ) → HasPrefix text written → HasPrefix (text ++ more) written
 longer text more written (rest, is) = (rest ++ more, ap (λ (l : List ℕ). l ++ more) is ∙ append_assoc written rest more)
 
@@ -81,7 +84,7 @@ broken_with pick f precincts are_readings prefix = record {
 
 pub readings_at_end : ReadingsAtEnd
 readings_at_end pick Done f are ends = record {
-  precincts = (flushed (received pick (whole_frames (counted f.read)))).precincts;
+  precincts = precincts_released (flushed (received pick (whole_frames (counted f.read)))).releases;
   are_readings = given_at_end pick f.read are;
   finished = λ is. ends.output;
   broken_off = λ is. absurd (cc);
@@ -91,8 +94,8 @@ readings_at_end pick ReadFault f are ends = stopped_with pick 3 f (λ e. absurd 
 readings_at_end pick WriteFault f are ends = elim ends.output [
   | inl part ↦
       let r = received pick (whole_frames (counted f.read)) in
-      broken_with pick f r.precincts (given_so_far pick f.read are) (longer (lines r.precincts) (counts_line pick f.read) f.written part)
-  | inr part ↦ broken_with pick f (flushed (received pick (whole_frames (counted f.read)))).precincts (given_at_end pick f.read are) part.1
+      broken_with pick f (precincts_released r.releases) (given_so_far pick f.read are) (longer (lines (precincts_released r.releases)) (counts_line pick f.read) f.written part)
+  | inr part ↦ broken_with pick f (precincts_released (flushed (received pick (whole_frames (counted f.read)))).releases) (given_at_end pick f.read are) part.1
 ]
 readings_at_end pick WireFault f are ends = stopped_with pick 5 f (λ e. absurd (cc)) (λ e. absurd (cc)) (lines_so_far pick f are ends.output)
 readings_at_end pick (Refused r) f are ends = stopped_with pick 6 f (λ e. absurd (cc)) (λ e. absurd (cc)) (lines_so_far pick f are ends.output)

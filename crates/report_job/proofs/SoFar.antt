@@ -5,11 +5,11 @@ use Rattle.std.proofs.lemmas.List.{append-nil, length-append, take_all}
 use Rattle.std.proofs.Math.Seq.{take-append-add}
 use Rattle.wire_model.specs.Framing.{frame, framing, IsFramed, IsPartial}
 use Rattle.wire_model.proofs.FramingLaws.{framing-append, framed-append, whole_frames_of_framing}
-use Rattle.stream_model.specs.Report.{lines, end_line}
+use Rattle.stream_model.specs.Report.{end_line}
 use Rattle.stream_model.specs.Receiver as rules
 use Rattle.stream_model.specs.Receiver.{received, take_frame, take_frames, flushed, counts_of}
 use Rattle.stream_model.specs.ReceiverJoins.{having_given, forgetful}
-use Rattle.stream_model.specs.Commands.{reported, report_lines}
+use Rattle.stream_model.specs.Commands.{release_lines, reported, report_lines}
 use Rattle.stream_model.proofs.ReceiverJoins.{precincts_join}
 use Rattle.stream_model.proofs.ReportWritten.{received_grows}
 use Rattle.scl_outside.specs.Meaning.{Meaning}
@@ -34,7 +34,7 @@ use Rattle.report_job.proofs.Gives.{lines_join}
 
 -- what was written of frames
 abbrev pub text_of : rules.Pick → List (List ℕ) → List ℕ
-text_of pick frames = lines (received pick frames).precincts
+text_of pick frames = release_lines (received pick frames).releases
 
 -- so far whole frames were read, and the lines of what was due were written
 pub record SoFar (pick : rules.Pick) (r : ReceiverState) (s t : Meaning) (offset : ℕ) (es : List Event) : Type 0 where
@@ -99,29 +99,29 @@ take_past n offset xs ys at h =
 
 -- the receiver after one more frame, and what is written
 received-more : (pick : rules.Pick) (r : ReceiverState) (frames : List (List ℕ)) (d : List ℕ) → r.rules ≡ forgetful (received pick frames) → r.pick ≡ pick
-    → received pick (frames ++ d ∷ []) ≡ having_given (received pick frames).precincts (take_frame r.pick r.rules d)
+    → received pick (frames ++ d ∷ []) ≡ having_given (received pick frames).releases (take_frame r.pick r.rules d)
 received-more pick r frames d same picks =
     (received_grows pick frames d).0
     ∙ ((precincts_join pick (received pick frames)).0 d
-    ∙ (ap (λ x. having_given (received pick frames).precincts (take_frame pick x d)) (sym same)
-    ∙ ap (λ p. having_given (received pick frames).precincts (take_frame p r.rules d)) (sym picks)))
+    ∙ (ap (λ x. having_given (received pick frames).releases (take_frame pick x d)) (sym same)
+    ∙ ap (λ p. having_given (received pick frames).releases (take_frame p r.rules d)) (sym picks)))
 
 text-more : (pick : rules.Pick) (r : ReceiverState) (frames : List (List ℕ)) (d : List ℕ) → r.rules ≡ forgetful (received pick frames) → r.pick ≡ pick
-    → text_of pick (frames ++ d ∷ []) ≡ text_of pick frames ++ lines (take_frame r.pick r.rules d).precincts
+    → text_of pick (frames ++ d ∷ []) ≡ text_of pick frames ++ release_lines (take_frame r.pick r.rules d).releases
 text-more pick r frames d same picks =
-    ap (λ (x : rules.Receiver). lines x.precincts) (received-more pick r frames d same picks) ∙ sym (lines_join (received pick frames).precincts (take_frame r.pick r.rules d).precincts)
+    ap (λ (x : rules.Receiver). release_lines x.releases) (received-more pick r frames d same picks) ∙ sym (lines_join (received pick frames).releases (take_frame r.pick r.rules d).releases)
 
 -- and the end
 flushed-more : (pick : rules.Pick) (r : ReceiverState) (frames : List (List ℕ)) → r.rules ≡ forgetful (received pick frames)
-    → flushed (received pick frames) ≡ having_given (received pick frames).precincts (flushed r.rules)
-flushed-more pick r frames same = (precincts_join pick (received pick frames)).1 ∙ ap (λ x. having_given (received pick frames).precincts (flushed x)) (sym same)
+    → flushed (received pick frames) ≡ having_given (received pick frames).releases (flushed r.rules)
+flushed-more pick r frames same = (precincts_join pick (received pick frames)).1 ∙ ap (λ x. having_given (received pick frames).releases (flushed x)) (sym same)
 
 end-more : (pick : rules.Pick) (r : ReceiverState) (frames : List (List ℕ)) → r.rules ≡ forgetful (received pick frames) → reported (received pick frames) true ≡ text_of pick frames ++ end_text r.rules
 end-more pick r frames same =
     let f = flushed-more pick r frames same in
-    ap (λ (x : rules.Receiver). lines x.precincts ++ end_line (counts_of x)) f
-    ∙ (ap (λ l. l ++ end_line (counts_of (flushed r.rules))) (sym (lines_join (received pick frames).precincts (flushed r.rules).precincts))
-    ∙ append_assoc (text_of pick frames) (lines (flushed r.rules).precincts) (end_line (counts_of (flushed r.rules))))
+    ap (λ (x : rules.Receiver). release_lines x.releases ++ end_line (counts_of x)) f
+    ∙ (ap (λ l. l ++ end_line (counts_of (flushed r.rules))) (sym (lines_join (received pick frames).releases (flushed r.rules).releases))
+    ∙ append_assoc (text_of pick frames) (release_lines (flushed r.rules).releases) (end_line (counts_of (flushed r.rules))))
 
 -- before each read of the next frame
 waiting : (pick : rules.Pick) (r : ReceiverState) (s t : Meaning) (offset : ℕ) (es : List Event) → SoFar pick r s t offset es → (f : Effects) → InsideFrame (left_at offset) f → IsSoFar (report_job pick) (and_then (effects es) f)
@@ -223,7 +223,7 @@ ends pick r q t u before after WriteFault es fs s so n = elim n.gives [
       let more : framing (so.frames ++ d ∷ []) ≡ framing so.frames ++ frame d = framing-more so.frames d in
       let fits : length (framing so.frames ++ frame d) ≤ input_limit = omega (arith, length-append (framing so.frames) (frame d)) in
       let short : length (framing (so.frames ++ d ∷ []) ++ []) ≤ input_limit = omega (arith, length-append (framing (so.frames ++ d ∷ [])) [], ap length more) in
-      let whole : report_lines pick (framing so.frames ++ frame d) false ≡ out ++ lines (take_frame r.pick r.rules d).precincts =
+      let whole : report_lines pick (framing so.frames ++ frame d) false ≡ out ++ release_lines (take_frame r.pick r.rules d).releases =
       ap (λ (l : List ℕ). report_lines pick l false) (sym more ∙ sym (append-nil (framing (so.frames ++ d ∷ [])))) ∙ (made_of pick (so.frames ++ d ∷ []) [] false tt short ∙ text-more pick r so.frames d so.rules so.picks) in
       ends_with (report_job pick) WriteFault (effects (es ++ fs)) (record (passed (framing so.frames ++ frame d) (out ++ front)) { write_failed = true }) (effects_then es fs _ _ so.done is) (
         record {

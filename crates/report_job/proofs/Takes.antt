@@ -1,6 +1,7 @@
 -- A frame taken, and the capture's end.
 use Rattle.std.proofs.Common.{◌≡◌, ◌++◌, ℕ, Bool, true, false, List, [], refl, sym, ◌∙◌, ap, subst, arith, inl, inr}
-use Rattle.stream_model.specs.Report.{Counts, lines, end_line}
+use Rattle.stream_model.specs.Commands.{release_lines}
+use Rattle.stream_model.specs.Report.{Counts, end_line}
 use Rattle.stream_model.specs.Receiver as rules
 use Rattle.stream_model.specs.Receiver.{take_frame, flushed, counts_of}
 use Rattle.stream_model.specs.ReceiverJoins.{having_given, forgetful}
@@ -27,8 +28,8 @@ followed_is false r e = absurd (cc)
 -- one that changes the tally alone
 takes_none : (s t : ReceiverState) (frame : List ℕ) (m : Meaning) → t.rules ≡ take_frame s.pick s.rules frame → IsReady t → Takes s frame Done t m m []
 takes_none s t frame m e ready =
-    let none : lines (take_frame s.pick s.rules frame).precincts ≡ [] = ap (λ (r : rules.Receiver). lines r.precincts) (sym e) ∙ ap lines ready.fresh in
-    let left : t.rules ≡ forgetful (take_frame s.pick s.rules frame) = ap (λ l. record t.rules { precincts = l }) ready.fresh ∙ ap forgetful e in
+    let none : release_lines (take_frame s.pick s.rules frame).releases ≡ [] = ap (λ (r : rules.Receiver). release_lines r.releases) (sym e) ∙ ap release_lines ready.fresh in
+    let left : t.rules ≡ forgetful (take_frame s.pick s.rules frame) = ap (λ l. record t.rules { releases = l }) ready.fresh ∙ ap forgetful e in
     record { puts = puts_same _ _ _ _ _ _ (sym none) (puts_nothing m); left = (left, ready) }
 
 pub takes_old : (s t : ReceiverState) (frame : List ℕ) (m : Meaning) → IsReady s → t ≡ after_offer s frame taken.Old → t.rules ≡ take_frame s.pick s.rules frame → Takes s frame Done t m m []
@@ -42,25 +43,25 @@ takes_refused s t frame why m ready is e =
     takes_none s t frame m e (subst P (sym is) (record { settled = ready.settled; undue = ready.undue; fresh = ready.fresh }))
 
 -- one that is taken by what the drained receiver left
-join_left : (pick : rules.Pick) (r : rules.Receiver) (frame : List ℕ) → take_frame pick r frame ≡ having_given r.precincts (take_frame pick (forgetful r) frame)
+join_left : (pick : rules.Pick) (r : rules.Receiver) (frame : List ℕ) → take_frame pick r frame ≡ having_given r.releases (take_frame pick (forgetful r) frame)
 join_left pick r frame = (precincts_join pick r).0 frame
 
-lines_left : (pick : rules.Pick) (r : rules.Receiver) (frame : List ℕ) → lines (take_frame pick r frame).precincts ≡ lines r.precincts ++ lines (take_frame pick (forgetful r) frame).precincts
-lines_left pick r frame = ap (λ (x : rules.Receiver). lines x.precincts) (join_left pick r frame) ∙ sym (lines_join r.precincts (take_frame pick (forgetful r) frame).precincts)
+lines_left : (pick : rules.Pick) (r : rules.Receiver) (frame : List ℕ) → release_lines (take_frame pick r frame).releases ≡ release_lines r.releases ++ release_lines (take_frame pick (forgetful r) frame).releases
+lines_left pick r frame = ap (λ (x : rules.Receiver). release_lines x.releases) (join_left pick r frame) ∙ sym (lines_join r.releases (take_frame pick (forgetful r) frame).releases)
 
 -- the same where it was drained for the frame
 pub drained_lines : (s t : ReceiverState) (frame : List ℕ) → IsReady s → take_frame s.pick (rest t) frame ≡ take_frame s.pick (followed_by s.settled s.rules) frame
     → (take_frame s.pick (rest t) frame ≡ take_frame s.pick s.rules frame)
-    × (lines (rest t).precincts ++ lines (take_frame s.pick (forgetful (rest t)) frame).precincts ≡ lines (take_frame s.pick s.rules frame).precincts)
+    × (release_lines (rest t).releases ++ release_lines (take_frame s.pick (forgetful (rest t)) frame).releases ≡ release_lines (take_frame s.pick s.rules frame).releases)
 drained_lines s t frame ready e =
     let same : take_frame s.pick (rest t) frame ≡ take_frame s.pick s.rules frame = e ∙ ap (λ r. take_frame s.pick r frame) (followed_is s.settled s.rules ready.settled) in
-    (same, sym (lines_left s.pick (rest t) frame) ∙ ap (λ (r : rules.Receiver). lines r.precincts) same)
+    (same, sym (lines_left s.pick (rest t) frame) ∙ ap (λ (r : rules.Receiver). release_lines r.releases) same)
 
 pub drain_failed : (s t u : ReceiverState) (frame : List ℕ) (m n : Meaning) (es : List Event) → IsReady s → take_frame s.pick (rest t) frame ≡ take_frame s.pick (followed_by s.settled s.rules) frame
     → Gives t WriteFault u m n es → Takes s frame WriteFault u m n es
 drain_failed s t u frame m n es ready e g =
     let d = drained_lines s t frame ready e in
-    record { puts = puts_same _ _ _ _ _ _ d.1 (puts_front (lines (rest t).precincts) (lines (take_frame s.pick (forgetful (rest t)) frame).precincts) _ _ _ g.puts); left = tt }
+    record { puts = puts_same _ _ _ _ _ _ d.1 (puts_front (release_lines (rest t).releases) (release_lines (take_frame s.pick (forgetful (rest t)) frame).releases) _ _ _ g.puts); left = tt }
 
 -- the second offer
 second : (s t : ReceiverState) (frame : List ℕ) (result : Taken) → IsKept s.pick s.rules frame → Answers s.pick s.rules frame result → Offers s frame result t → rest t ≡ take_frame s.pick (followed_by s.settled s.rules) frame
@@ -84,8 +85,8 @@ drain_done s t u v w frame answer result m n o es fs ready e kept g pick answers
     ∙ (ap (λ r. take_frame u.pick r frame) (followed_is u.settled u.rules g.left.1.settled)
     ∙ (ap (λ p. take_frame p u.rules frame) pick ∙ ap (λ r. take_frame s.pick r frame) g.left.0)) in
     let X = take_frame s.pick (forgetful (rest t)) frame in
-    let text : lines (rest t).precincts ++ lines (rest v).precincts ≡ lines (take_frame s.pick s.rules frame).precincts =
-    ap (λ (r : rules.Receiver). lines (rest t).precincts ++ lines r.precincts) now ∙ d.1 in
+    let text : release_lines (rest t).releases ++ release_lines (rest v).releases ≡ release_lines (take_frame s.pick s.rules frame).releases =
+    ap (λ (r : rules.Receiver). release_lines (rest t).releases ++ release_lines r.releases) now ∙ d.1 in
     let same : forgetful (rest v) ≡ forgetful (take_frame s.pick s.rules frame) = ap forgetful now ∙ (sym (ap forgetful (join_left s.pick (rest t) frame)) ∙ ap forgetful d.0) in
     record { puts = puts_same _ _ _ _ _ _ text (puts_then _ _ _ _ _ _ _ _ g.puts h.puts); left = left_of result h.left same } where
       left_of : (result : PutOut) → IsLeft result (rest v) w → forgetful (rest v) ≡ forgetful (take_frame s.pick s.rules frame) → IsLeft result (take_frame s.pick s.rules frame) w
@@ -108,13 +109,13 @@ flushed_is s t ready e = e ∙ ap flushed (followed_is s.settled s.rules ready.s
 
 pub end_failed : (s t u : ReceiverState) (m n : Meaning) (es : List Event) → IsReady s → rest t ≡ flushed (followed_by s.settled s.rules) → Gives t WriteFault u m n es → Puts (end_text s.rules) m n WriteFault es
 end_failed s t u m n es ready e g =
-    let same = ap (λ (r : rules.Receiver). lines r.precincts) (flushed_is s t ready e) in
-    puts_front (lines (flushed s.rules).precincts) (end_line (counts_of (flushed s.rules))) _ _ _ (puts_same _ _ _ _ _ _ same g.puts)
+    let same = ap (λ (r : rules.Receiver). release_lines r.releases) (flushed_is s t ready e) in
+    puts_front (release_lines (flushed s.rules).releases) (end_line (counts_of (flushed s.rules))) _ _ _ (puts_same _ _ _ _ _ _ same g.puts)
 
 pub end_done : (s t u : ReceiverState) (counts : Counts) (result : PutOut) (m n o : Meaning) (es fs : List Event) → IsReady s → rest t ≡ flushed (followed_by s.settled s.rules) → Gives t Done u m n es
     → counts ≡ counts_of u.rules → Puts (end_line counts) n o result fs → Puts (end_text s.rules) m o result (es ++ fs)
 end_done s t u counts result m n o es fs ready e g is p =
     let f = flushed_is s t ready e in
-    let same = ap (λ (r : rules.Receiver). lines r.precincts) f in
+    let same = ap (λ (r : rules.Receiver). release_lines r.releases) f in
     let c : counts ≡ counts_of (flushed s.rules) = is ∙ (ap counts_of g.left.0 ∙ ap counts_of f) in
     puts_then _ _ _ _ _ _ _ _ (puts_same _ _ _ _ _ _ same g.puts) (puts_same _ _ _ _ _ _ (ap end_line c) p)

@@ -7,7 +7,7 @@ use Rattle.wire_model.specs.Framing.{frame}
 use Rattle.wire_model.specs.RtpReading.{is_rtp}
 use Rattle.wire_model.specs.PayloadReading.{is_payload}
 use Rattle.wire_model.specs.Datagram.{rtp_payload, datagram_of, is_well_formed}
-use Rattle.stream_model.specs.Report.{lines}
+use Rattle.stream_model.specs.Commands.{release_lines}
 use Rattle.stream_model.specs.Decoder.{one_more}
 use Rattle.stream_model.specs.Receiver as rules
 use Rattle.stream_model.specs.Receiver.{take_frame}
@@ -54,7 +54,7 @@ turn_done r s before after m t u n buf es fs big is within live a b =
         ap (λ (x : FramesState). x.live) is ∙ live,
         b.left.0,
         b.left.1,
-        effects_then es fs _ _ a.gives.3 b.puts.gives ∙ ap (λ (l : List ℕ). passed l (lines (take_frame r.pick r.rules d).precincts)) (append-nil (frame d)),
+        effects_then es fs _ _ a.gives.3 b.puts.gives ∙ ap (λ (l : List ℕ). passed l (release_lines (take_frame r.pick r.rules d).releases)) (append-nil (frame d)),
       );
     }
 
@@ -86,15 +86,15 @@ more n low = let e : min (n + 1) 18446744073709551615 ≡ n + 1 = omega arith in
 
 refused_frame : (r s : ReceiverState) (d : List ℕ) → (is_well_formed d && ((datagram_of d).rtp.kind == r.pick.kind)) ≡ false → IsReady r → counted r.rules < 2 ^ 64 - 1
     → s ≡ record r { rules = record r.rules { refused = one_more r.rules.refused } }
-    → (s.rules ≡ forgetful (take_frame r.pick r.rules d)) × IsReady s × (lines (take_frame r.pick r.rules d).precincts ≡ [])
+    → (s.rules ≡ forgetful (take_frame r.pick r.rules d)) × IsReady s × (release_lines (take_frame r.pick r.rules d).releases ≡ [])
 refused_frame r s d malformed ready few is =
     let e = malformed_frames_are_counted_alone r.pick r.rules d malformed in
     let n : one_more r.rules.refused ≡ r.rules.refused + 1 = more r.rules.refused (omega (arith, few)) in
     let now : s.rules ≡ record r.rules { refused = r.rules.refused + 1 } = ap (λ (x : ReceiverState). x.rules) is ∙ ap (λ k. record r.rules { refused = k }) n in
     let P : ReceiverState → Type 0 = λ x. IsReady x in (
-      now ∙ (ap (λ l. record r.rules { refused = r.rules.refused + 1; precincts = l }) ready.fresh ∙ sym (ap forgetful e)),
+      now ∙ (ap (λ l. record r.rules { refused = r.rules.refused + 1; releases = l }) ready.fresh ∙ sym (ap forgetful e)),
       subst P (sym is) (record { settled = ready.settled; undue = ready.undue; fresh = ready.fresh }),
-      ap (λ (x : rules.Receiver). lines x.precincts) e ∙ ap lines ready.fresh,
+      ap (λ (x : rules.Receiver). release_lines x.releases) e ∙ ap release_lines ready.fresh,
     )
 
 pub turn_empty : (r s : ReceiverState) (before after : FramesState) (m t : Meaning) (buf : List ℕ) (es : List Event) → after ≡ state_after before Empty → after.offset ≤ input_limit → before.live ≡ true

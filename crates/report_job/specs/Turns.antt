@@ -1,7 +1,7 @@
 -- What taking one frame of a capture does.
 use Rattle.std.specs.Prelude.{◌≡◌, ◌≢◌, ◌≤◌, ◌+◌, ◌++◌, ◌⊎◌, ℕ, true, List, [], length, take}
 use Rattle.wire_model.specs.Framing.{frame, IsFramed, IsPartial}
-use Rattle.stream_model.specs.Report.{lines}
+use Rattle.stream_model.specs.Commands.{release_lines}
 use Rattle.stream_model.specs.Receiver.{take_frame}
 use Rattle.stream_model.specs.ReceiverJoins.{forgetful}
 use Rattle.scl_outside.specs.Meaning.{Meaning}
@@ -33,7 +33,7 @@ RefusedGives reason at offset f = ⊥
 abbrev pub BrokeOff : ReceiverState → ℕ → Effects → Type 0
 BrokeOff r offset f =
     ((d : List ℕ) × (front : List ℕ) × (rest : List ℕ) × IsFramed d × (length (frame d) ≤ left_at offset)
-    × (lines (take_frame r.pick r.rules d).precincts ≡ front ++ rest) × (f ≡ record (passed (frame d) front) { write_failed = true }))
+    × (release_lines (take_frame r.pick r.rules d).releases ≡ front ++ rest) × (f ≡ record (passed (frame d) front) { write_failed = true }))
     ⊎ ((front : List ℕ) × (rest : List ℕ) × (end_text r.rules ≡ front ++ rest) × (f ≡ record (read_to_end []) { written = front; write_failed = true }))
 
 -- What one frame came to: it was taken, and the lines of what was due were written; or it ended the
@@ -41,7 +41,7 @@ BrokeOff r offset f =
 abbrev pub TurnGives : ReceiverState → ReceiverState → FramesState → FramesState → Turn → Effects → Type 0
 TurnGives r s before after Frame f =
     (d : List ℕ) × IsFramed d × (after.offset ≡ before.offset + length (frame d)) × (after.offset ≤ input_limit) × (after.live ≡ true)
-    × (s.rules ≡ forgetful (take_frame r.pick r.rules d)) × IsReady s × (f ≡ passed (frame d) (lines (take_frame r.pick r.rules d).precincts))
+    × (s.rules ≡ forgetful (take_frame r.pick r.rules d)) × IsReady s × (f ≡ passed (frame d) (release_lines (take_frame r.pick r.rules d).releases))
 TurnGives r s before after (Stop Done) f = f ≡ record (read_to_end []) { written = end_text r.rules }
 TurnGives r s before after (Stop ReadFault) f =
     (bytes : List ℕ) × IsPartial bytes × (length bytes ≤ left_at before.offset) × (f ≡ read_until_failed bytes)

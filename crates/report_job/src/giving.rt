@@ -65,7 +65,7 @@ fn counts(tally: &Tally) -> Counts
 
 /// Writes the lines of each precinct that the receiver can give.
 fn give<D: Duct>(receiver: &mut Receiver, out: &mut D) -> PutOut
-    requires { receiver.old.rules.precincts ≡ [] }
+    requires { receiver.old.rules.releases ≡ [] }
     ensures gives { (es : List Event)
         × Gives receiver.old result receiver.new (D.meaning out.old) (D.meaning out.new) es }
     ensures pick { receiver.new.pick ≡ receiver.old.pick }

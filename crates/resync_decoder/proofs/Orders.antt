@@ -11,7 +11,8 @@ use Rattle.codestream_model.specs.GeometryLaws.{HasSteps, PidsAreDistinct, Packe
 use Rattle.codestream_model.specs.HeadLimits.{IsWithinLimits, IsStep}
 use Rattle.codestream_model.proofs.TreeLemmas.{either, equal_number, same_number}
 use Rattle.stream_model.specs.Decoder as rules
-use Rattle.stream_model.specs.Decoder.{Current, from_place}
+use Rattle.stream_model.specs.Decoder.{from_place}
+use Rattle.resync_decoder.specs.InForce.{InForce, current_with}
 use Rattle.precinct_geometry.specs.Spans.{place_of}
 use Rattle.precinct_geometry.specs.declared.place.Place as code
 use Rattle.pcrl_order.specs.Later.{later, LaterIsTheRest, PlacesFromOneOn}
@@ -123,17 +124,17 @@ found_is distinct computed splits h n None limits some none = sym (number_missin
 found_is distinct computed splits h n (Some p) limits some none = sym (number_found distinct computed splits h n (place_of p) limits some.0 some.1)
 
 -- the same of the main header in force
-abbrev pub in_force : ℕ → Head → Current
-in_force stamp h = record { stamp = stamp; head = h; order = packet_order h }
+abbrev pub in_force : ℕ → Head → InForce
+in_force stamp h = record { stamp = stamp; head = h }
 
-pub found_in : PidsAreDistinct → PacketOrderIsComputed → LaterIsTheRest → (stamp : ℕ) (h : Head) (c : Current) (n : ℕ) (o : Option code.Place) → in_force stamp h ≡ c → IsWithinLimits h
+pub found_in : PidsAreDistinct → PacketOrderIsComputed → LaterIsTheRest → (stamp : ℕ) (h : Head) (c : InForce) (n : ℕ) (o : Option code.Place) → in_force stamp h ≡ c → IsWithinLimits h
     → IfSome o (λ p. IsPrecinct h (place_of p) × (pid h (place_of p) ≡ n)) → (IsNone o → (q : Place) → IsPrecinct h q → pid h q ≡ n → ⊥)
-    → option_map place_of o ≡ rules.place_of c n
+    → option_map place_of o ≡ rules.place_of (current_with [] c) n
 found_in distinct computed splits stamp h c n o view limits some none =
-    found_is distinct computed splits h n o limits some none ∙ ap (λ (x : Current). find (has_number x.head n) x.order) view
+    found_is distinct computed splits h n o limits some none ∙ ap (λ (x : InForce). find (has_number x.head n) (packet_order x.head)) view
 
-pub order_from_in : PacketOrderIsComputed → LaterIsTheRest → PlacesFromOneOn → (stamp : ℕ) (h : Head) (c : Current) (p : Place) → in_force stamp h ≡ c → IsWithinLimits h → IsPrecinct c.head p
-    → from_place p c.order ≡ p ∷ later c.head p
+pub order_from_in : PacketOrderIsComputed → LaterIsTheRest → PlacesFromOneOn → (stamp : ℕ) (h : Head) (c : InForce) (p : Place) → in_force stamp h ≡ c → IsWithinLimits h → IsPrecinct c.head p
+    → from_place p (packet_order c.head) ≡ p ∷ later c.head p
 order_from_in computed splits rest stamp h c p view limits =
-    let P : Current → Type 0 = λ x. IsPrecinct x.head p → from_place p x.order ≡ p ∷ later x.head p in
+    let P : InForce → Type 0 = λ x. IsPrecinct x.head p → from_place p (packet_order x.head) ≡ p ∷ later x.head p in
     subst P view (order_from computed splits rest h p limits)

@@ -5,7 +5,6 @@ use Rattle.std.proofs.lemmas.Bool.Decides.{eqb_tells}
 use Rattle.codestream_model.specs.Values as values
 use Rattle.stream_model.specs.Decoder as rules
 use Rattle.stream_model.specs.Decoder.{Current, Ruling, Releases, Changes, Waits, Whole, Part, Other, found_packet, begin_instead, release, drop_run, is_place, rule_without_run, rule_of_packet, rule_before_mark, rule_at_mark, rule_in_run, rule_of_run}
-use Rattle.stream_model.specs.Report as report
 use Rattle.resync_decoder.specs.declared.decoder.Rule.{Rule}
 use Rattle.resync_decoder.specs.declared.found.Found.{Found}
 use Rattle.resync_decoder.specs.declared.found.Found.TheVariants as found
@@ -47,7 +46,7 @@ sought_in d i answer s seeks =
     let Q : Option (List values.Place) → Type 0 = λ o. IsSoughtIn d (Some i.current) o answer s.given in
     subst Q i.runs (subst P i.is seeks.sought)
 
-whole_by : (d : rules.Decoder) (c : Current) (p : values.Place) (f : rules.Found) (header size : ℕ) (g : Option report.Precinct) → IsSought d c p f (found.Whole header size) g
+whole_by : (d : rules.Decoder) (c : Current) (p : values.Place) (f : rules.Found) (header size : ℕ) (g : Option rules.Release) → IsSought d c p f (found.Whole header size) g
     → (blocks : List values.Block) × (f ≡ Whole blocks header size) × (g ≡ Some (given_of d c p blocks header size))
 whole_by d c p (Whole blocks h n) header size g (is, given) =
     let a : h ≡ header = cc in
@@ -56,12 +55,12 @@ whole_by d c p (Whole blocks h n) header size g (is, given) =
 whole_by d c p Part header size g is = absurd (cc)
 whole_by d c p Other header size g is = absurd (cc)
 
-part_by : (d : rules.Decoder) (c : Current) (p : values.Place) (f : rules.Found) (g : Option report.Precinct) → IsSought d c p f found.Part g → f ≡ Part
+part_by : (d : rules.Decoder) (c : Current) (p : values.Place) (f : rules.Found) (g : Option rules.Release) → IsSought d c p f found.Part g → f ≡ Part
 part_by d c p (Whole blocks h n) g (is, given) = absurd (cc)
 part_by d c p Part g is = refl
 part_by d c p Other g is = absurd (cc)
 
-other_by : (d : rules.Decoder) (c : Current) (p : values.Place) (f : rules.Found) (g : Option report.Precinct) → IsSought d c p f found.Other g → f ≡ Other
+other_by : (d : rules.Decoder) (c : Current) (p : values.Place) (f : rules.Found) (g : Option rules.Release) → IsSought d c p f found.Other g → f ≡ Other
 other_by d c p (Whole blocks h n) g (is, given) = absurd (cc)
 other_by d c p Part g is = absurd (cc)
 other_by d c p Other g is = refl

@@ -1,4 +1,5 @@
 pub mod Runs
+pub mod InForce
 pub mod States
 pub mod Finding
 pub mod Views

@@ -4,7 +4,7 @@ use Rattle.codestream_model.specs.Values as values
 use Rattle.codestream_model.specs.MainHeaderReading.{head_of, Refused}
 use Rattle.codestream_model.specs.PacketOrder.{pid}
 use Rattle.stream_model.specs.Decoder as rules
-use Rattle.stream_model.specs.Decoder.{Current, Ruling, Releases, Changes, Waits, Whole, Part, Other, found_packet, begin_at, run_of, mark_behind, settled, with_precinct}
+use Rattle.stream_model.specs.Decoder.{Current, Ruling, Releases, Changes, Waits, Whole, Part, Other, Release, found_packet, begin_at, run_of, mark_behind, settled, with_release}
 use Rattle.stream_model.specs.Report as report
 use Rattle.packet_header.specs.Answers.{block_of}
 use Rattle.packet_header.specs.declared.block.Precinct.{Precinct}
@@ -17,11 +17,11 @@ use Rattle.resync_decoder.specs.declared.found.Found.{Found}
 use Rattle.resync_decoder.specs.Finding.{IsFound}
 use Rattle.resync_decoder.specs.declared.found.Found.TheVariants as found
 
--- A decoder: its state by the rules, the precinct that `released` lends, and whether no rule
+-- A decoder: its state by the rules, the packet that `released` and `raw` lend, and whether no rule
 -- applies until more bytes come.
 pub record DecoderState : Type 0 where
   pub rules : rules.Decoder
-  pub given : Option report.Precinct
+  pub given : Option Release
   pub waits : Bool
 
 -- A decoder that waits for more bytes and lends no packet.
@@ -52,18 +52,23 @@ abbrev pub stamp_of : Option Current → Option ℕ
 stamp_of None = None
 stamp_of (Some c) = Some c.stamp
 
+-- The bytes of a main header.
+abbrev pub header_in : Option Current → Option (List ℕ)
+header_in None = None
+header_in (Some c) = Some c.header
+
 -- The first packet of what the bytes settle to was given, and the others are left.
-abbrev pub Gives : rules.Decoder → Option report.Precinct → DecoderState → Type 0
+abbrev pub Gives : rules.Decoder → Option Release → DecoderState → Type 0
 Gives d None s = ⊥
-Gives d (Some x) s = settled d ≡ with_precinct x (settled s.rules)
+Gives d (Some x) s = settled d ≡ with_release x (settled s.rules)
 
 -- A step that answers true has given the first packet of what the bytes settle to; one that answers
 -- false leaves none.
 abbrev pub Steps : rules.Decoder → Bool → DecoderState → Type 0
 Steps d true s = Gives d s.given s
-Steps d false s = (settled d ≡ record { precincts = []; decoder = s.rules }) × (s.waits ≡ true)
+Steps d false s = (settled d ≡ record { releases = []; decoder = s.rules }) × (s.waits ≡ true)
 
--- A ruling was carried out: its precinct was given, its change was made, or the rules wait.
+-- A ruling was carried out: its packet was given, its change was made, or the rules wait.
 abbrev pub IsFollowed : Ruling → Rule → DecoderState → Type 0
 IsFollowed (Releases x next) answer s = (answer ≡ rule.Released) × (s ≡ record { rules = next; given = Some x; waits = false })
 IsFollowed (Changes next) answer s = (answer ≡ rule.Changed) × (s ≡ record { rules = next; given = None; waits = false })
@@ -95,24 +100,29 @@ past d size = past_in d size d.run
 abbrev pub GoesOn : DecoderState → ℕ → Rule → DecoderState → Type 0
 GoesOn s size answer t = (answer ≡ rule.Released) × (t ≡ record { rules = past s.rules size; given = s.given; waits = false })
 
--- The precinct of a packet of `size` bytes, `header` of them in its header.
-abbrev pub given_of : rules.Decoder → Current → values.Place → List values.Block → ℕ → ℕ → report.Precinct
+-- The release of a packet of `size` bytes, `header` of them in its header.
+abbrev pub given_of : rules.Decoder → Current → values.Place → List values.Block → ℕ → ℕ → Release
 given_of d c p blocks header size = record {
-  stamp = c.stamp;
-  pid = pid c.head p;
-  place = p;
-  blocks = blocks;
-  bytes = take (size - header) (drop header d.bytes);
+  precinct = record {
+    stamp = c.stamp;
+    pid = pid c.head p;
+    place = p;
+    blocks = blocks;
+    bytes = take (size - header) (drop header d.bytes);
+  };
+  raw = take size d.bytes;
+  header = c.header;
+  heads = d.heads;
 }
 
 -- What is at the front of a run was found, and a whole packet is noted.
-abbrev pub IsSought : rules.Decoder → Current → values.Place → rules.Found → Found → Option report.Precinct → Type 0
+abbrev pub IsSought : rules.Decoder → Current → values.Place → rules.Found → Found → Option Release → Type 0
 IsSought d c p (Whole blocks header size) answer given = (answer ≡ found.Whole header size) × (given ≡ Some (given_of d c p blocks header size))
 IsSought d c p Part answer given = answer ≡ found.Part
 IsSought d c p Other answer given = answer ≡ found.Other
 
 -- The same in the run of a decoder with a main header.
-abbrev pub IsSoughtIn : rules.Decoder → Option Current → Option (List values.Place) → Found → Option report.Precinct → Type 0
+abbrev pub IsSoughtIn : rules.Decoder → Option Current → Option (List values.Place) → Found → Option Release → Type 0
 IsSoughtIn d (Some c) (Some (p ∷ later)) answer given = IsSought d c p (found_packet c.head p d.bytes) answer given
 IsSoughtIn d current run answer given = ⊥
 

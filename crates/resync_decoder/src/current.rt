@@ -1,11 +1,12 @@
 //! The main header in force.
-ghost use Rattle.std.specs.Prelude.{◌≡◌, ◌∷◌, Some, None, IfSome, option_map};
+ghost use Rattle.std.specs.Prelude.{◌≡◌, ◌∷◌, [], Some, None, IfSome, option_map};
 ghost use Rattle.codestream_model.specs.PacketOrder.{packet_order};
 ghost use Rattle.codestream_model.specs.Precincts.{IsPrecinct};
 ghost use Rattle.stream_model.specs.Decoder as rules;
 ghost use Rattle.stream_model.specs.Decoder.{run_of, from_place};
 ghost use Rattle.precinct_geometry.specs.Spans.{place_of};
 ghost use Rattle.pcrl_order.specs.Later.{later};
+ghost use Rattle.resync_decoder.specs.InForce.{current_with};
 ghost use Rattle.resync_decoder.specs.Runs.{run_from};
 
 use codestream_model::{packet_order_is_computed, pids_are_distinct};
@@ -22,19 +23,17 @@ pub struct Current {
 }
 
 impl Model for Current {
-    ghost use Rattle.stream_model.specs.Decoder as rules;
+    ghost use Rattle.resync_decoder.specs.InForce.{InForce};
 
-    ghost Value = { rules.Current };
+    ghost Value = { InForce };
 
-    ghost use Rattle.codestream_model.specs.PacketOrder.{packet_order};
-
-    ghost view = { λ c. record { stamp = c.stamp; head = c.geometry; order = packet_order c.geometry } };
+    ghost view = { λ c. record { stamp = c.stamp; head = c.geometry } };
 }
 
 impl Current {
     /// This header, in force with this timestamp.
     pub fn new(stamp: u32, head: Head) -> Current
-        ensures { result ≡ record { stamp = stamp; head = head; order = packet_order head } }
+        ensures { result ≡ record { stamp = stamp; head = head } }
     {
         Current {
             stamp,
@@ -58,7 +57,8 @@ impl Current {
 
     /// The first precinct of its packet order.
     pub fn first(&self) -> Place
-        ensures order { self.now.order ≡ place_of result ∷ later self.now.head (place_of result) }
+        ensures order { packet_order self.now.head
+            ≡ place_of result ∷ later self.now.head (place_of result) }
         ensures precinct { IsPrecinct self.now.head (place_of result) }
     {
         Cursor::first(&self.geometry).place()
@@ -66,7 +66,8 @@ impl Current {
 
     /// The precinct with a number, or None where no precinct has it.
     pub fn find(&self, pid: u32) -> Option<Place>
-        ensures place { option_map place_of result ≡ rules.place_of self.now pid }
+        ensures place { option_map place_of result
+            ≡ rules.place_of (current_with [] self.now) pid }
         ensures precinct { IfSome result (λ p. IsPrecinct self.now.head (place_of p)) }
     {
         pids_are_distinct();
@@ -93,7 +94,7 @@ impl Current {
     /// Proof only: the packet order from a precinct on.
     pub fn order_from(&self, place: Place)
         requires { IsPrecinct self.now.head (place_of place) }
-        ensures { from_place (place_of place) self.now.order
+        ensures { from_place (place_of place) (packet_order self.now.head)
             ≡ place_of place ∷ later self.now.head (place_of place) }
     {
         packet_order_is_computed();

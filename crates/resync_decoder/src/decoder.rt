@@ -1,5 +1,5 @@
 //! The decoder, and its six rules, which find the packets of a run.
-ghost use Rattle.std.specs.Prelude.{◌≡◌, ◌≤◌, ◌<◌, ◌^◌, IfOk, IsSome, Some, None, true, false, length};
+ghost use Rattle.std.specs.Prelude.{◌≡◌, ◌≤◌, ◌<◌, ◌^◌, IfOk, IsSome, Some, None, true, false, length, option_map};
 ghost use Rattle.std.specs.Option.{ForSome};
 ghost use Rattle.codestream_model.specs.Bytes.{IsBytes};
 ghost use Rattle.codestream_model.specs.Values as values;
@@ -7,14 +7,14 @@ ghost use Rattle.stream_model.specs.Decoder as rules;
 ghost use Rattle.stream_model.specs.Decoder.{at_start, take_main, take_body, take_gap, is_place};
 ghost use Rattle.precinct_geometry.specs.Spans.{place_of};
 ghost use Rattle.scl_payload.specs.Heads.{values_of};
-ghost use Rattle.resync_decoder.specs.States.{head_answer, waiting, begun, precinct_of, stamp_of};
+ghost use Rattle.resync_decoder.specs.States.{head_answer, waiting, begun, precinct_of, stamp_of, header_in};
 ghost use Rattle.resync_decoder.specs.States.{Steps, IsFollowed, Seeks, GoesOn, BeginsWith};
 
-use crate::buffer::{ROOM, append};
+use crate::buffer::{LONGEST_HEADER, ROOM, append, keep};
 use crate::current::Current;
-use crate::found::{Found, MOST_BLOCKS, look};
+use crate::found::{Finder, Found, Progress};
 use j2k_markers::read_head;
-use packet_header::{HeaderReader, Precinct};
+use packet_header::Precinct;
 use precinct_geometry::Place;
 use scl_payload::BodyHead;
 use std::alloc::{AllocError, Global};
@@ -47,12 +47,16 @@ struct Mark {
     place: Place,
 }
 
-/// A packet that was found: its precinct, and where in the buffer its segments are.
+/// A packet that was found: its precinct, and where in the buffer it is.
 #[derive(Clone, Copy)]
 struct Given {
     place: Place,
     pid: u32,
+    /// Where its first byte is.
+    at: usize,
+    /// Where its segments begin.
     from: usize,
+    /// Where they end.
     to: usize,
 }
 
@@ -74,16 +78,19 @@ fn is_same(one: Place, other: Place) -> bool
 #[derive(Drop)]
 pub struct Decoder {
     current: Option<Current>,
+    /// The bytes of the main header in force.
+    header: Vec<u8>,
     /// The precinct whose packet comes next in the run; None where there is no run.
     next: Option<Place>,
     buffer: Vec<u8>,
     /// Where in the buffer the next packet of the run starts.
     front: usize,
     mark: Option<Mark>,
-    reader: HeaderReader,
+    finder: Finder,
     given: Option<Given>,
     /// Whether no rule applies until more bytes come.
     waits: bool,
+    heads: u64,
     unsupported: u64,
     disagreed: u64,
     broken: u64,
@@ -103,20 +110,23 @@ impl Model for Decoder {
 
 impl Decoder {
     /// A decoder with no main header. All its memory is taken here: the run buffer of 16,786,216
-    /// bytes, and the tree nodes and the table of 65,536 code-blocks.
+    /// bytes, the 8,192 bytes of a main header, and the tree nodes and the table of 65,536
+    /// code-blocks.
     pub fn new(alloc: Global) -> Result<Decoder, AllocError>
         ensures { IfOk result (λ d. d ≡ waiting at_start) }
     {
-        let reader = HeaderReader::reserve(alloc, MOST_BLOCKS)?;
+        let finder = Finder::reserve(alloc)?;
         Ok(Decoder {
             current: None,
+            header: Vec::with_capacity(alloc, LONGEST_HEADER)?,
             next: None,
             buffer: Vec::with_capacity(alloc, ROOM)?,
             front: 0,
             mark: None,
-            reader,
+            finder,
             given: None,
             waits: true,
+            heads: 0,
             unsupported: 0,
             disagreed: 0,
             broken: 0,
@@ -144,6 +154,9 @@ impl Decoder {
             self.unsupported = self.unsupported.saturating_add(1);
             return HeadTaken::Unsupported;
         }
+        keep(&mut self.header, bytes);
+        self.heads = self.heads.saturating_add(1);
+        self.finder.progress = Progress::Unread;
         let current = Current::new(stamp, head);
         self.next = Some(current.first());
         self.current = Some(current);
@@ -224,7 +237,7 @@ impl Decoder {
     pub fn released(&self, stamp: u32) -> Precinct<'_>
         requires given { IsSome self.now.given }
         requires stamp { stamp_of self.now.rules.current ≡ Some stamp }
-        ensures { self.now.given ≡ Some (precinct_of result) }
+        ensures { option_map (λ x. x.precinct) self.now.given ≡ Some (precinct_of result) }
     {
         let Some(given) = self.given else {
             unreachable!()
@@ -233,9 +246,43 @@ impl Decoder {
             stamp,
             place: given.place,
             pid: given.pid,
-            blocks: self.reader.blocks(),
+            blocks: self.finder.reader.blocks(),
             bytes: &self.buffer[given.from..given.to],
         }
+    }
+
+    /// All bytes of the packet that the last `step` gave, those of its header and then of its
+    /// segments, until the next call. That `step` answered true.
+    pub fn raw(&self) -> &[u8]
+        requires { IsSome self.now.given }
+        ensures { option_map (λ x. x.raw) self.now.given ≡ Some result.now }
+    {
+        let Some(given) = self.given else {
+            unreachable!()
+        };
+        &self.buffer[given.at..given.to]
+    }
+
+    /// The bytes of the main header in force, under which a packet is given; None where there is
+    /// none.
+    pub fn head(&self) -> Option<&[u8]>
+        ensures head { option_map (λ b. b.now) result ≡ header_in self.now.rules.current }
+        ensures given { ForSome self.now.given
+            (λ x. header_in self.now.rules.current ≡ Some x.header) }
+    {
+        match &self.current {
+            Some(_) => Some(self.header.as_slice()),
+            None => None,
+        }
+    }
+
+    /// The number of Main packets whose bytes were exactly one accepted main header. It stays at
+    /// 2^64 - 1.
+    pub fn heads(&self) -> u64
+        ensures heads { result ≡ self.now.rules.heads }
+        ensures given { ForSome self.now.given (λ x. x.heads ≡ result) }
+    {
+        self.heads
     }
 
     /// The timestamp of the main header in force, or None where there is none.
@@ -340,6 +387,7 @@ impl Decoder {
         }
         self.buffer.clear();
         self.front = 0;
+        self.finder.progress = Progress::Unread;
         self.given = None;
         self.waits = true;
         Rule::Waits
@@ -378,6 +426,7 @@ impl Decoder {
         };
         self.next = current.after(place);
         self.front += size;
+        self.finder.progress = Progress::Unread;
         self.waits = false;
         Rule::Released
     }
@@ -432,6 +481,7 @@ impl Decoder {
         current.order_from(mark.place);
         self.next = Some(mark.place);
         self.front = mark.at;
+        self.finder.progress = Progress::Unread;
         self.mark = None;
         self.given = None;
         self.waits = false;
@@ -447,17 +497,14 @@ impl Decoder {
             unreachable!()
         };
         let geometry = current.geometry();
-        let found = look(
-            geometry,
-            &mut self.reader,
-            place,
-            &self.buffer[self.front..],
-        );
+        let bytes = &self.buffer[self.front..];
+        let found = self.finder.find(geometry, place, bytes);
         self.given = None;
         if let Found::Whole(header, size) = found {
             self.given = Some(Given {
                 place,
                 pid: geometry.pid(place),
+                at: self.front,
                 from: self.front + header,
                 to: self.front + size,
             });

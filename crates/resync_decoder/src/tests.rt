@@ -93,6 +93,15 @@ fn packets_are_given_from_the_main_header_or_a_mark_on(rt: HostRuntime) -> Resul
         Call::Body(9, Some((2, 1)), &[0xEE, 0xEE, 0, 0], &[1, 2]),
     ];
     decodes(&rt, alloc, &split, (0, 0, 0))?;
+    let byte_by_byte = [
+        Call::Main(9, &THREE_SAMPLES, HeadTaken::Taken),
+        Call::Body(9, None, &PACKET[..1], &[]),
+        Call::Body(9, None, &PACKET[1..2], &[]),
+        Call::Body(9, None, &PACKET[2..3], &[]),
+        Call::Body(9, None, &[0xBB, 0xC8], &[0]),
+        Call::Body(9, Some((1, 2)), &[0x80, 0], &[2]),
+    ];
+    decodes(&rt, alloc, &byte_by_byte, (0, 1, 0))?;
     let past_the_last = [
         Call::Main(9, &THREE_SAMPLES, HeadTaken::Taken),
         Call::Body(
@@ -165,4 +174,37 @@ fn a_main_header_is_in_force_until_the_next_or_another_stamp(rt: HostRuntime) ->
         Call::Body(9, None, &[0, 0, 0], &[0, 1, 2]),
     ];
     decodes(&rt, alloc, &again, (0, 0, 0))
+}
+
+#[test]
+fn a_packet_is_given_with_all_its_bytes_under_its_main_header(rt: HostRuntime) -> Result<(), Fail> {
+    let mut decoder = Decoder::new(rt.alloc())?;
+    assert!(rt; decoder.head().is_none());
+    assert_eq!(rt; decoder.heads(), 0);
+    let head = BodyHead {
+        res: 7,
+        eseq: 0,
+        ordb: false,
+        pos: 0,
+        pid: 0,
+    };
+    for heads in [1, 2] {
+        assert_eq!(rt; decoder.main(9, 0, &THREE_SAMPLES), HeadTaken::Taken);
+        assert!(rt; !decoder.step());
+        decoder.body(9, 0, &head, &[0xC8, 0x80, 0xAA, 0xBB, 0]);
+        for raw in [&PACKET[..], &[0]] {
+            assert!(rt; decoder.step());
+            assert_eq!(rt; decoder.raw(), raw);
+            assert_eq!(rt; decoder.head(), Some(&THREE_SAMPLES[..]));
+            assert_eq!(rt; decoder.heads(), heads);
+        }
+        assert!(rt; !decoder.step());
+    }
+    assert_eq!(rt;
+        decoder.main(9, 0, &THREE_SAMPLES[..89]),
+        HeadTaken::Unsupported
+    );
+    assert!(rt; decoder.head().is_none());
+    assert_eq!(rt; decoder.heads(), 2);
+    Ok(())
 }

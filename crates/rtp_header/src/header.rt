@@ -95,7 +95,7 @@ fn judge(bytes: &[u8]) -> Result<Rtp, RtpFault>
     if bytes.len() < FIXED {
         return Err(RtpFault::Short);
     }
-    // V stands in the two highest bits
+    // V is in the two highest bits
     if bytes[0] / 64 != VERSION {
         return Err(RtpFault::Version);
     }

@@ -1,4 +1,4 @@
--- One arrival more: what is in time then, and where the base stands.
+-- One arrival more: what is in time then, and where the base is.
 use Rattle.std.proofs.Common.{◌≡◌, ◌⊎◌, ◌<◌, ◌≤◌, ◌+◌, ◌-◌, ◌==◌, ◌&&◌, ◌||◌, ℕ, zero, suc, max, Bool, true, false, cond, List, [], ◌∷◌, ◌++◌, length, filter, refl, sym, ◌∙◌, ap, inl, inr, arith}
 use Rattle.std.specs.Prelude.{nat_lt, nat_le}
 use Rattle.std.specs.List.{AllByRecursion, fold, list_all, range_with_len}
@@ -117,7 +117,7 @@ old_base x xs a window some old =
     (old_position x xs a (base events window) window some old ∙ base_is_late events window)
     (λ i low less. old_position x xs a i window some old ∙ below_base events window i (omega (arith, same, low)) less)
 
--- how many positions are in time, of so many
+-- how many positions are in time, of the first n
 same_filter : (t u : ℕ → Bool) (a n : ℕ) → ((i : ℕ) → a ≤ i → i < a + n → t i ≡ u i) → filter t (range_with_len a n) ≡ filter u (range_with_len a n)
 same_filter t u a zero h = refl
 same_filter t u a (suc n) h =

@@ -70,7 +70,7 @@ less_or_same a b h = grind arith
 pub base_is_late : (events : List ℕ) (window : ℕ) → in_time events (base events window) window ≡ false
 base_is_late events window = base_is_late_by events window (less_or_same (run events window) (reach events window) (run-le-reach events window))
 
--- what stands below the base, from the floor on, is in time
+-- what is below the base, from the floor on, is in time
 pub below_base : (events : List ℕ) (window i : ℕ) → floor events window ≤ i → i < base events window → in_time events i window ≡ true
 below_base events window i low high =
     let xs : List ℕ = range_with_len (floor events window) (reach events window) in

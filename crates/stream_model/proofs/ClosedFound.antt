@@ -123,7 +123,7 @@ next_by rest (Err t) fits s =
     let P : List ℕ → Type 0 = λ l. RefusesHead l t.at t.why in
     ([], inr (λ h header more is e. header_is_not_refused h header more t.at t.why is (subst P e s), refl))
 
--- what is there behind so many whole codestreams, where no other is whole
+-- what is there after n whole codestreams, where no other is whole
 next_of : (n : ℕ) (rest : List ℕ) → n < 65536 → IsBytes rest → HasNoCodestream rest → (next : List Known) × IsNext n rest next
 next_of n rest few fits none = let b = next_by rest (head_of rest) fits (headers_are_judged rest fits) in (b.0, inr (few, none, b.1))
 
@@ -145,7 +145,7 @@ closed_by : (p : Plan) (bytes : List ℕ) (before : List (List ℕ)) (parts : Li
 closed_by p bytes before parts rest s n =
     (map datagram_bytes (take 8388607 (datagrams_by p (sendable p (map known_of parts ++ n.0)))), record { codestreams = before; parts = parts; rest = rest; next = n.0; whole = s.whole; are_parts = s.are; few = s.few; is_next = n.1; fixed = refl })
 
--- by the codestreams that follow, in no more bytes than so many
+-- by the codestreams that follow, in at most n bytes
 closed_behind : (n : ℕ) (p : Plan) (bytes : List ℕ) (before : List (List ℕ)) (parts : List Parts) (rest : List ℕ) → length rest < n → IsBytes rest → Split bytes before parts rest → (closed : List (List ℕ)) × Closed p bytes closed
 closed_behind zero p bytes before parts rest most fits s = absurd (omega arith)
 closed_behind (suc n) p bytes before parts rest most fits s = elim (cases_lt (length before) 65536) [

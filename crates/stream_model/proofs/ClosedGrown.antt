@@ -1,4 +1,4 @@
--- More bytes only add datagrams behind those that are fixed, and the whole input fixes the cut.
+-- More bytes only add datagrams after those that are fixed, and the whole input fixes the cut.
 use Rattle.std.proofs.Common.{◌≡◌, ◌<◌, ◌≤◌, ◌+◌, ℕ, List, [], ◌∷◌, ◌++◌, map, length, take, refl, sym, subst, ap, ◌∙◌, inl, inr, arith, append_assoc}
 use Rattle.std.specs.List.{AllByRecursion, AllZip, flat_map}
 use Rattle.std.proofs.lemmas.Bool.{le-leb, cases_lt}
@@ -85,7 +85,7 @@ each_is [] (x ∷ xs) a = absurd a
 each_is (p ∷ ps) [] a = absurd a
 each_is (p ∷ ps) (x ∷ xs) a = ((p.head, p.content, parts_spell p x a.0), each_is ps xs a.1)
 
--- the parts of codestreams and of those behind them
+-- the parts of codestreams and of those after them
 parts_split : (qs : List Parts) (xs ys : List (List ℕ)) → AllZip (λ c b. ArePartsOf c b) qs (xs ++ ys) → (front : List Parts) × (back : List Parts) × (qs ≡ front ++ back) × AllZip (λ c b. ArePartsOf c b) front xs × AllZip (λ c b. ArePartsOf c b) back ys
 parts_split qs [] ys a = ([], qs, refl, tt, a)
 parts_split [] (x ∷ xs) ys a = absurd a
@@ -147,7 +147,7 @@ next_closes n rest more next d codestream tail known (inr (few, none, inl (c, be
     let g = grown_whole c rest more begins d codestream tail s e in
     inr (c, known_of d, known, f, refl, begins.unended, g.0, g.1, g.2)
 
--- behind the codestreams that are whole in some bytes, in more bytes
+-- after the codestreams that are whole in some bytes, in more bytes
 behind_follows : (n m : ℕ) (rest tail more : List ℕ) (next now : List Known) (back : List Parts) (extra : List (List ℕ)) → n + length extra ≡ m → AllZip (λ c b. ArePartsOf c b) back extra → rest ++ more ≡ joined extra ++ tail
     → IsNext n rest next → IsNext m tail now → Follows next (map known_of back ++ now)
 behind_follows n m rest tail more next now [] [] k a e f g =
@@ -209,7 +209,7 @@ grows_backward p bytes more closed later a b (x ∷ extra) some e =
     let behind = (same_front (joined b.codestreams) (joined b.codestreams) b.rest (x ++ tail) refl split).1 in
     absurd (none_whole (length b.codestreams) b.rest x tail b.next (omega (arith, a.few, ap length e, length-append b.codestreams (x ∷ extra))) b.is_next (among_all IsCodestream b.codestreams x extra each) behind)
 
--- more bytes only add datagrams behind
+-- more bytes only add datagrams after
 pub closed_grows : ClosedGrows
 closed_grows p bytes more closed later some a b =
     let split : joined a.codestreams ++ (a.rest ++ more) ≡ joined b.codestreams ++ b.rest = sym (ap (λ (l : List ℕ). l ++ more) a.whole ∙ append_assoc (joined a.codestreams) a.rest more) ∙ b.whole in
@@ -259,7 +259,7 @@ closed_is_cut p parts codestreams a fit few small =
       fixed = ap (map datagram_bytes) (sym (ap (take 8388607) all ∙ take_all 8388607 xs (omega (arith, small))));
     }
 
--- so what its front fixes is a front of the cut
+-- so what its front fixes is a prefix of the cut
 pub closed_is_front : ClosedIsFrontOfCut
 closed_is_front p bytes more closed parts codestreams some c e a fit few small =
     let P : List ℕ → Type 0 = λ l. Closed p l (map datagram_bytes (flat_map datagrams_of (sent_by p parts))) in

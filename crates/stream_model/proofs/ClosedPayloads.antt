@@ -13,7 +13,7 @@ use Rattle.stream_model.proofs.CutPayloads.{chunk}
 use Rattle.stream_model.proofs.CutStreams.{range_append}
 use Rattle.stream_model.proofs.DueGrows.{filter-append, none_left}
 
--- one list is the front of another
+-- one list is a prefix of another
 abbrev pub IsFront : List (List ℕ) → List (List ℕ) → Type 0
 IsFront xs ys = (more : List (List ℕ)) × (ys ≡ xs ++ more)
 
@@ -118,14 +118,14 @@ full_in_full room s e some =
     subst P (sym (full_are_first room s e some))
     (subst Q (sym now) (first_chunks room (s ++ e) (length s / room) (length (s ++ e) / room) (quotient_grows room (length s) (length (s ++ e)) some (longer s e))))
 
--- fronts behind a list and before one
+-- fronts after a list and before one
 front_behind : (a xs ys : List (List ℕ)) → IsFront xs ys → IsFront (a ++ xs) (a ++ ys)
 front_behind a xs ys h = (h.0, ap (λ zs. a ++ zs) h.1 ∙ sym (append_assoc a xs h.0))
 
 front_before : (xs ys zs : List (List ℕ)) → IsFront xs ys → IsFront xs (ys ++ zs)
 front_before xs ys zs h = (h.0 ++ zs, ap (λ ws. ws ++ zs) h.1 ∙ append_assoc xs h.0 zs)
 
--- stretches of which the last has grown, and others behind it
+-- stretches of which the last has grown, and others after it
 pub record Extends (was now : List (List ℕ)) : Type 0 where
   pub before : List (List ℕ)
   pub last : List ℕ
@@ -134,7 +134,7 @@ pub record Extends (was now : List (List ℕ)) : Type 0 where
   pub old : was ≡ before ++ last ∷ []
   pub new : now ≡ before ++ (last ++ extra) ∷ more
 
--- what is closed of them is the front of what is closed later,
+-- what is closed of them is a prefix of what is closed later,
 closed_cons : (room : ℕ) (s : List ℕ) (b : List (List ℕ)) (last : List ℕ) (m : List (List ℕ)) → closed_payloads room (s ∷ (b ++ last ∷ m)) ≡ chunks room s ++ closed_payloads room (b ++ last ∷ m)
 closed_cons room s [] last m = refl
 closed_cons room s (x ∷ b) last m = refl

@@ -1,4 +1,4 @@
--- What stands below the base is decided, and where the base stands when everything arrived in order.
+-- What is below the base is decided, and where the base is when everything arrived in order.
 use Rattle.std.proofs.Common.{◌≡◌, ◌<◌, ◌≤◌, ◌⊎◌, ◌+◌, ◌-◌, ℕ, zero, suc, max, true, false, List, [], ◌∷◌, ◌++◌, refl, sym, ◌∙◌, inl, inr, arith}
 use Rattle.std.specs.Prelude.{◌&&◌, nat_lt, nat_le}
 use Rattle.std.specs.List.{fold, list_all, range_with_len}
@@ -20,7 +20,7 @@ pub fold-range-below : (b m a n : ℕ) → b < m → a + n ≤ m → fold max b 
 fold-range-below b m a zero low h = low
 fold-range-below b m a (suc n) low h = fold-range-below (max b a) m (a + 1) n (omega arith) (omega arith)
 
--- in order and without loss the base is behind the last
+-- in order and without loss the base is after the last
 pub base_of_all : (n window : ℕ) → 1 ≤ window → base (range_with_len 0 n) window ≡ n
 base_of_all zero window some = let z : 1 - window ≡ 0 = omega arith in rw z refl
 base_of_all (suc n) window some =

@@ -53,7 +53,7 @@ all_after size base (k ∷ held) low all = elim (eqb_tells k.number base) [
       subst P (sym t.0) ((all.0.0, near_after size base k.number low all.0.0 all.0.1 t.1), all_after size base held low all.1)
 ]
 
--- how many numbers a gap has, where so many are due
+-- the length of a gap, where n numbers are due
 abbrev gap_of : ℕ → ℕ → List (Held Datagram) → ℕ
 gap_of base u held = fold min u (map (λ h. ahead base h.number) held)
 
@@ -61,7 +61,7 @@ gap_most : (base u : ℕ) (held : List (Held Datagram)) → gap_of base u held �
 gap_most base u [] = omega arith
 gap_most base u (k ∷ held) = let h = gap_most base (min u (ahead base k.number)) held in omega (arith, h)
 
--- behind a gap
+-- after a gap
 near_behind : (size base g n : ℕ) → base < 2 ^ 24 → n < 2 ^ 24 → ahead base n < size → g ≤ ahead base n → ahead ((base + g) % 2 ^ 24) n < size
 near_behind size base g n low few near least = omega arith
 
@@ -70,7 +70,7 @@ all_behind : (size base g : ℕ) (held : List (Held Datagram)) → base < 2 ^ 24
 all_behind size base g [] low least all = tt
 all_behind size base g (k ∷ held) low least all = ((all.0.0, near_behind size base g k.number low all.0.0 all.0.1 least.0), all_behind size base g held low least.1 all.1)
 
--- none stands within a gap
+-- none is within a gap
 gap_least : (base u : ℕ) (held : List (Held Datagram)) → AllByRecursion (λ h. gap_of base u held ≤ ahead base h.number) held
 gap_least base u [] = tt
 gap_least base u (k ∷ held) = (let m = gap_most base (min u (ahead base k.number)) held in omega (arith, m), gap_least base (min u (ahead base k.number)) held)
@@ -104,7 +104,7 @@ pending_most w base = by (is_held base w.held) (w.due == 0) where
   by false true = omega arith
   by false false = omega arith
 
--- not behind a gap
+-- not after a gap
 pending_behind : (size base : ℕ) (w : Window Datagram) → base < 2 ^ 24 → AllByRecursion (IsNear size base) w.held → pending (moved base (gap_length base w) w) (Some ((base + gap_length base w) % 2 ^ 24)) ≡ 0
 pending_behind size base w low all = elim (gap_ends size base w.due w.held low all) [
   | inr t ↦ rw t refl

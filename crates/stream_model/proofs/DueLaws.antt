@@ -17,7 +17,7 @@ use Rattle.stream_model.proofs.Positions.{placed, are_placed}
 use Rattle.stream_model.proofs.CutPayloads.{all-append}
 use Rattle.stream_model.proofs.CutStreams.{marks_placed}
 use Rattle.stream_model.proofs.RunPlaces.{as_many}
-use Rattle.stream_model.proofs.RunReach.{reach_false, second_fails, precincts-length}
+use Rattle.stream_model.proofs.RunReach.{reach_false, second_fails}
 use Rattle.stream_model.proofs.RunSteps.{as_said}
 use Rattle.stream_model.proofs.RunStream.{IsWhole}
 use Rattle.stream_model.proofs.RunLaws.{are_whole, have_bytes, reached_placed}
@@ -82,6 +82,13 @@ due_test events window main j s w few =
           second_fails (is_reached events window c j packet) (nat_lt packet.last b) none ∙ sym (reach_false t c j packet (inr (packet.last, omega arith, omega arith, no), points))
     ]
 
+-- the precincts of packets are as many as the places
+precincts-length : (h : Head) (stamp : ℕ) (ps : List Place) (xs : List Content) → length ps ≡ length xs → length (precincts_of h stamp ps xs) ≡ length ps
+precincts-length h stamp [] [] e = refl
+precincts-length h stamp [] (x ∷ xs) e = refl
+precincts-length h stamp (p ∷ ps) [] e = absurd (omega arith)
+precincts-length h stamp (p ∷ ps) (x ∷ xs) e = ap suc (precincts-length h stamp ps xs (omega arith))
+
 -- as many precincts as packets
 as_many_in : (s : Sent) (codestream : List ℕ) → ArePartsOf s.parts codestream → length (precincts_in s) ≡ length s.parts.packets
 as_many_in s codestream a =
@@ -104,7 +111,7 @@ all_due events window i at (s ∷ sent) w =
     let rest = flat_map (λ l. l) (placed (λ s. length (datagrams_of s)) (λ i at s. passing (λ k. is_due events window (carried_at at s) k (packet_span s at k)) 0 (precincts_in s)) (i + 1) (at + length (datagrams_of s)) sent) in
     ap (λ l. l ++ rest) one ∙ ap (λ l. passing (λ k. reaches (below events window) (carried_at at s) k (packet_span s at k)) 0 (precincts_in s) ++ l) (all_due events window (i + 1) (at + length (datagrams_of s)) sent w.1)
 
--- how the codestreams stand, one after another
+-- how the codestreams lie, one after another
 carried_placed : (sent : List Sent) → carried sent ≡ placed (λ s. length (datagrams_of s)) (λ i at s. carried_at at s) 0 0 sent
 carried_placed sent = are_placed (λ s. length (datagrams_of s)) (λ i at s. carried_at at s) sent
 

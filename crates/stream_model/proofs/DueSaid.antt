@@ -94,7 +94,7 @@ said_placed all test i at (s ∷ sent) a b =
     flat_map-append (said_by all) (precincts_by (test c) c) rest
     ∙ (ap (λ l. l ++ flat_map (said_by all) rest) one ∙ ap (λ l. passing (λ k. test c k (packet_span s at k)) 0 (precincts_in s) ++ l) (said_placed all test (i + 1) (at + length (datagrams_of s)) sent a.1 b.1))
 
--- a mark stands in its Body
+-- a mark is in its Body
 abbrev pub StandsIn : List Datagram → Mark → Type 0
 StandsIn bodies m = (payload_start bodies m.body ≤ m.place) × (m.place < payload_start bodies (m.body + 1))
 
@@ -109,7 +109,7 @@ starts_here bodies front x rest i at e n start =
     let h = ap (λ k. payload_start bodies (k + 1)) (sym n) in
     (omega (arith, one, g, start), omega (arith, two, h, last, start))
 
--- each mark of Bodies stands in its own
+-- each mark of Bodies is in its own
 pub marks_stand : (s : Sent) (bodies front rest : List Datagram) (i at : ℕ) → bodies ≡ front ++ rest → length front ≡ i → at ≡ sum_by (λ y. length y.codestream) front → AllByRecursion (IsBodyOf s) rest → AllByRecursion (StandsIn bodies) (marks_from i at rest)
 marks_stand s bodies front [] i at e n start each = tt
 marks_stand s bodies front (x ∷ rest) i at e n start each =
@@ -126,7 +126,7 @@ marks_stand s bodies front (x ∷ rest) i at e n start each =
     all-append (StandsIn bodies) (mark_of i at x.payload) (marks_from (i + 1) (at + length x.codestream) rest) own
     (marks_stand s bodies (front ++ x ∷ []) rest (i + 1) (at + length x.codestream) (e ∙ sym (append_assoc front (x ∷ []) rest)) (omega (arith, n, length-append front (x ∷ []))) (omega (arith, sum, last, start)) each.1)
 
--- a precinct isn't due whose last datagram isn't below the base: something isn't there behind each resync point at or before it
+-- a precinct isn't due whose last datagram isn't below the base: something isn't there after each resync point at or before it
 pub fail_points : (there : ℕ → Bool) (main j : ℕ) (s : Sent) (codestream : List ℕ) (parts : ArePartsOf s.parts codestream) (ms : List Mark) → j < length s.parts.packets → there (packet_span s main j).last ≡ false → AllByRecursion (IsResync s.parts) ms → AllByRecursion (StandsIn s.bodies) ms
     → AllByRecursion (Fails there j (packet_span s main j).last) (map (point main s) ms)
 fail_points there main j s codestream parts [] few none right stand = tt

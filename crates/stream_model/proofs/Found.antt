@@ -90,7 +90,7 @@ number_here sent codestreams datagrams i r within =
     ∙ (ap (λ ys. get_or ys i (number_of [])) all
     ∙ get_or-map-range_with_len (λ i. (r.number + i) % 2 ^ 24) 0 (length datagrams) i i (number_of []) within (omega arith))
 
--- so a datagram stands at one position
+-- so a datagram is at one position
 apart : (a i j : ℕ) → i < 8388608 → j < 8388608 → (a + i) % 16777216 ≡ (a + j) % 16777216 → i ≡ j
 apart a i j h k e = omega arith
 

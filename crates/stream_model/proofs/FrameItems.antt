@@ -73,18 +73,18 @@ without_keeps frames next d = (no_bytes, tt)
 
 -- a Main
 header_keeps : (frames : List (List ℕ)) (d : Decoder) (x : Datagram) (r : Result Head Refused) → IsAmong frames x → IsMainPayload x.payload → IsBytes x.codestream
-    → MatchResult r (λ h. SpellsHead h (take h.length x.codestream)) (λ t. RefusesHead x.codestream t.at t.why) → DecoderIs frames (after_next (extended_number x)) (take_header d x.rtp.stamp (length x.codestream) r)
+    → MatchResult r (λ h. SpellsHead h (take h.length x.codestream)) (λ t. RefusesHead x.codestream t.at t.why) → DecoderIs frames (after_next (extended_number x)) (take_header d x.rtp.stamp x.codestream r)
 header_keeps frames d x (Err why) came is fits j = without_keeps frames (after_next (extended_number x)) d
 header_keeps frames d x (Ok h) came is fits j =
     let next = after_next (extended_number x) in
-    let c : Current = record { stamp = x.rtp.stamp; head = h; order = packet_order h } in
-    let P : Bool → Type 0 = λ b. DecoderIs frames next (if b then record d { current = Some c; run = Some (packet_order h); bytes = []; mark = None } else record (without_head d) { unsupported = one_more d.unsupported }) in
+    let c : Current = record { stamp = x.rtp.stamp; head = h; header = x.codestream; order = packet_order h } in
+    let P : Bool → Type 0 = λ b. DecoderIs frames next (if b then record d { current = Some c; run = Some (packet_order h); bytes = []; mark = None; heads = one_more d.heads } else record (without_head d) { unsupported = one_more d.unsupported }) in
     elim (either (h.length == length x.codestream)) [
       | inl t ↦
           let s = taken_all h x.codestream (equal_number h.length (length x.codestream) t) j in
           let limits = header_is_within_limits h x.codestream fits s in
           let steps = All-weaker IsStep (λ step. (0 < step.x) × (0 < step.y)) (λ step i. (i.some_x, i.some_y)) h.steps limits.each_step in
-          let came_as : HeadCame frames c x = record { came = came; is_main = is; stamp = refl; is_head = s; order = packet_order_is_computed h steps } in
+          let came_as : HeadCame frames c x = record { came = came; is_main = is; stamp = refl; is_head = s; header = refl; order = packet_order_is_computed h steps } in
           subst P (sym t) (no_bytes, (x, came_as, first_run frames c x (packet_order h) refl, tt))
       | inr t ↦ subst P (sym t) (without_keeps frames next d)
     ]

@@ -9,13 +9,13 @@ use Rattle.codestream_model.specs.Bytes.{IsBytes}
 use Rattle.codestream_model.proofs.TreeLemmas.{either, equal_number}
 use Rattle.stream_model.specs.Arrivals.{is_of_kind}
 use Rattle.stream_model.specs.Stream.{extended_number}
-use Rattle.stream_model.specs.ReadingLaws.{kept_of, EachPrecinctIsKept}
+use Rattle.stream_model.specs.ReadingLaws.{kept_of, EachReleaseIsRead, EachPrecinctIsKept}
 use Rattle.stream_model.specs.Decoder.{take_gap}
 use Rattle.stream_model.specs.Window.{Offer, Behind, Again, Drain, Kept, offer, hold, make_due, make_all_due, Hand, Gap, Nothing, next}
-use Rattle.stream_model.specs.Receiver.{Pick, Receiver, new_receiver, decoded, followed, drained, drain, keep, offered, is_source, take_datagram, take_frame, take_frames, received}
+use Rattle.stream_model.specs.Receiver.{Pick, Receiver, new_receiver, decoded, followed, drained, drain, keep, offered, is_source, take_datagram, take_frame, take_frames, received, flushed}
 use Rattle.stream_model.proofs.ReceiverRuns.{other_kind, of_kind}
 use Rattle.stream_model.proofs.FrameItems.{start_is}
-use Rattle.stream_model.proofs.FrameReceivers.{ReceiverIs, Came, drain_keeps, keep_keeps, frame_came, all_due_keeps}
+use Rattle.stream_model.proofs.FrameReceivers.{ReceiverIs, are_read, Came, drain_keeps, keep_keeps, frame_came, all_due_keeps}
 
 -- the frames that were kept
 abbrev kept_by : Receiver → ℕ
@@ -70,7 +70,7 @@ frame_kept frames pick r f is fits has =
       | inr t ↦ let refused : P (record r { refused = r.refused + 1 }) = λ h. is in subst P (sym (other_kind pick r f t)) refused has
     ]
 
--- the first frame, where it is kept, and those behind it
+-- the first frame, where it is kept, and those after it
 abbrev FrontIs : List (List ℕ) → Pick → Receiver → List ℕ → List (List ℕ) → Type 0
 FrontIs frames pick r f rest = ((take_frame pick r f).kept ≡ r.kept + 1 → Contains frames f) × AllByRecursion (Contains frames) (kept_of pick (take_frame pick r f) rest)
 
@@ -92,10 +92,14 @@ frames_kept frames pick (f ∷ rest) r is fits has =
     let front = front_is frames pick r f rest has in
     frames_kept frames pick rest (take_frame pick r f) (frame_kept frames pick r f is fits.0 front.0) fits.1 front.1
 
--- each precinct is read from those that are kept
-pub each_precinct_is_kept : EachPrecinctIsKept
-each_precinct_is_kept pick frames fits =
+-- each packet that is released is read from those that are kept
+pub each_release_is_read : EachReleaseIsRead
+each_release_is_read pick frames fits =
     let kept = kept_of pick (new_receiver pick) frames in
     let r = received pick frames in
     let is = frames_kept kept pick frames (new_receiver pick) (tt, λ next. start_is kept next, tt) fits (recursion_from_All (Contains kept) kept (All-contains_itself kept)) in
     (drain_keeps kept (record r { window = make_all_due r.window r.window.base }) (all_due_keeps kept r r.window.base is)).2
+
+-- so each precinct is
+pub each_precinct_is_kept : EachPrecinctIsKept
+each_precinct_is_kept pick frames fits = are_read (kept_of pick (new_receiver pick) frames) (flushed (received pick frames)).releases (each_release_is_read pick frames fits)

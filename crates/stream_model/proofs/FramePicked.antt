@@ -9,15 +9,15 @@ use Rattle.codestream_model.proofs.SegmentBytes.{bytes-drop, bytes-take}
 use Rattle.codestream_model.proofs.TreeLemmas.{either, equal_number}
 use Rattle.stream_model.specs.Report.{lines}
 use Rattle.stream_model.specs.Commands.{counted}
-use Rattle.stream_model.specs.Arrivals.{is_of_kind, source_of, picked_source}
+use Rattle.stream_model.specs.Arrivals.{picked, is_of_kind, source_of, picked_source}
 use Rattle.stream_model.specs.Stream.{extended_number}
 use Rattle.stream_model.specs.ReadingLaws.{PickedAreTaken, ReportIsRead}
-use Rattle.stream_model.specs.Decoder.{take_gap}
+use Rattle.stream_model.specs.Decoder.{precincts_released, take_gap}
 use Rattle.stream_model.specs.Window.{Offer, Behind, Again, Drain, Kept, offer, hold, make_due, make_all_due, Hand, Gap, Nothing, next}
 use Rattle.stream_model.specs.Receiver.{Pick, Receiver, new_receiver, decoded, followed, drained, drain, offered, is_source, take_datagram, take_frame, take_frames, received, flushed}
 use Rattle.stream_model.proofs.CountedFrames.{each_frame_is_counted_once}
 use Rattle.stream_model.proofs.ReceiverRuns.{SourceIs, is_picked, other_kind, of_kind, right_source, wrong_source, source_stays}
-use Rattle.stream_model.proofs.FrameReceivers.{source_offered, source_begins, received_is, each_precinct_is_read}
+use Rattle.stream_model.proofs.FrameReceivers.{source_offered, source_begins, received_is, are_read, each_precinct_is_read}
 
 -- the frames that were refused
 abbrev refused_by : Receiver → ℕ
@@ -53,7 +53,7 @@ refused_offered r x Kept = refused_drain (record r { window = hold r.window (ext
 abbrev one_if : Bool → ℕ
 one_if b = if b then 1 else 0
 
--- so many more are refused as frames aren't picked
+-- as many more are refused as frames aren't picked
 abbrev IsCounted : Pick → ℕ → List ℕ → List (List ℕ) → Receiver → Receiver → Type 0
 IsCounted pick src f rest r s = SourceIs pick src rest s.source × (s.refused + one_if (is_picked pick src f) ≡ r.refused + 1)
 
@@ -134,9 +134,9 @@ report_is_read pick read false fits =
     let b = counted read in
     let frames = whole_frames b in
     let are = first_are_bytes (length b) b (bytes-take 1099511627776 read fits) in
-    ((received pick frames).precincts, (received_is pick frames are).2, sym (append-nil (lines (received pick frames).precincts)))
+    (precincts_released (received pick frames).releases, are_read (picked pick.kind pick.source frames) (received pick frames).releases (received_is pick frames are).2, sym (append-nil (lines (precincts_released (received pick frames).releases))))
 report_is_read pick read true fits =
     let b = counted read in
     let frames = whole_frames b in
     let are = first_are_bytes (length b) b (bytes-take 1099511627776 read fits) in
-    ((flushed (received pick frames)).precincts, each_precinct_is_read pick frames are, refl)
+    (precincts_released (flushed (received pick frames)).releases, each_precinct_is_read pick frames are, refl)

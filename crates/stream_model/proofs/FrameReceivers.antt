@@ -15,12 +15,11 @@ use Rattle.wire_model.proofs.RtpFound.{rtp_reads_as_laid_out}
 use Rattle.wire_model.proofs.PayloadFound.{payload_reads_as_laid_out}
 use Rattle.codestream_model.specs.Bytes.{IsBytes}
 use Rattle.codestream_model.proofs.TreeLemmas.{either, equal_number}
-use Rattle.stream_model.specs.Report.{Precinct}
 use Rattle.stream_model.specs.Arrivals.{is_of_kind, source_of, picked_source, picked}
 use Rattle.stream_model.specs.Stream.{extended_number}
 use Rattle.stream_model.specs.Reading.{IsAmong}
-use Rattle.stream_model.specs.ReadingLaws.{IsRead, EachPrecinctIsRead, GivenStays, GivenGrows}
-use Rattle.stream_model.specs.Decoder.{Decoder, settled, take_gap}
+use Rattle.stream_model.specs.ReadingLaws.{IsRead, IsReleased, EachPrecinctIsRead, GivenStays, GivenGrows}
+use Rattle.stream_model.specs.Decoder.{Release, precincts_released, Decoder, settled, take_gap}
 use Rattle.stream_model.specs.Window.{Held, ahead, insert, base_with, hold, make_due, make_all_due, Offer, Behind, Again, Drain, Kept, offer, Next, Hand, Gap, Nothing, moved, gap_length, next_at, next}
 use Rattle.stream_model.specs.Receiver.{Pick, Receiver, new_receiver, decoded, followed, drained, drain, keep, offered, is_source, take_datagram, take_frame, take_frames, received, flushed}
 use Rattle.stream_model.specs.ReceiverJoins.{forgetful}
@@ -43,7 +42,7 @@ BaseIs frames (Some base) d = DecoderIs frames base d
 
 -- what is known of a receiver
 abbrev pub ReceiverIs : List (List ℕ) → Receiver → Type 0
-ReceiverIs frames r = AllByRecursion (HeldIs frames) r.window.held × BaseIs frames r.window.base r.decoder × AllByRecursion (IsRead frames) r.precincts
+ReceiverIs frames r = AllByRecursion (HeldIs frames) r.window.held × BaseIs frames r.window.base r.decoder × AllByRecursion (IsReleased frames) r.releases
 
 -- what holds of all holds of one that is found,
 all_found : {A : Type 0} (P : A → Type 0) (t : A → Bool) (xs : List A) (x : A) → AllByRecursion P xs → find t xs ≡ Some x → P x
@@ -76,14 +75,14 @@ NextIs frames r (Gap count w) = ReceiverIs frames (record r { window = w; decode
 NextIs frames r Nothing = Unit {0}
 
 -- what is at the base is handed on, or else a gap
-at_base : (frames : List (List ℕ)) (r : Receiver) (base : ℕ) (o : Option (Held Datagram)) → AllByRecursion (HeldIs frames) r.window.held → DecoderIs frames base r.decoder → AllByRecursion (IsRead frames) r.precincts
+at_base : (frames : List (List ℕ)) (r : Receiver) (base : ℕ) (o : Option (Held Datagram)) → AllByRecursion (HeldIs frames) r.window.held → DecoderIs frames base r.decoder → AllByRecursion (IsReleased frames) r.releases
     → find (λ h. h.number == base) r.window.held ≡ o → NextIs frames r (next_at base r.window o)
 at_base frames r base (Some h) all k given e =
     let t : Held Datagram → Bool = λ x. x.number == base in
     let came = all_found (HeldIs frames) t r.window.held h all e in
     let number : extended_number h.item ≡ base = came.2 ∙ equal_number h.number base (found_passes t r.window.held h e) in
     let s = settled_keeps frames (after_next base) (decoded r.decoder h.item h.item.payload) (decoded_keeps frames base r.decoder h.item k came.0 came.1 number) in
-    (all_kept (HeldIs frames) (λ x. not (x.number == base)) r.window.held all, s.1, all-append (IsRead frames) r.precincts (settled (decoded r.decoder h.item h.item.payload)).precincts given s.0)
+    (all_kept (HeldIs frames) (λ x. not (x.number == base)) r.window.held all, s.1, all-append (IsReleased frames) r.releases (settled (decoded r.decoder h.item h.item.payload)).releases given s.0)
 at_base frames r base None all k given e =
     let count = gap_length base r.window in
     elim (r.window.due == 0) as (λ b. NextIs frames r (if b then Nothing else Gap count (moved base count r.window))) [
@@ -91,7 +90,7 @@ at_base frames r base None all k given e =
       | false ↦ (all, gap_keeps frames base ((base + count) % 2 ^ 24) r.decoder k, given)
     ]
 
-next_by : (frames : List (List ℕ)) (r : Receiver) (base : Option ℕ) → AllByRecursion (HeldIs frames) r.window.held → BaseIs frames base r.decoder → AllByRecursion (IsRead frames) r.precincts → NextIs frames r (next r.window base)
+next_by : (frames : List (List ℕ)) (r : Receiver) (base : Option ℕ) → AllByRecursion (HeldIs frames) r.window.held → BaseIs frames base r.decoder → AllByRecursion (IsReleased frames) r.releases → NextIs frames r (next r.window base)
 next_by frames r None all k given = tt
 next_by frames r (Some base) all k given = at_base frames r base (find (λ h. h.number == base) r.window.held) all k given refl
 
@@ -235,18 +234,23 @@ pub all_due_keeps : (frames : List (List ℕ)) (r : Receiver) (base : Option ℕ
 all_due_keeps frames r None is = is
 all_due_keeps frames r (Some base) is = is
 
+-- what holds of packets that are read holds of their precincts
+pub are_read : (frames : List (List ℕ)) (xs : List Release) → AllByRecursion (IsReleased frames) xs → AllByRecursion (IsRead frames) (precincts_released xs)
+are_read frames [] h = tt
+are_read frames (x ∷ xs) h = ((h.0.reading, h.0.names), are_read frames xs h.1)
+
 -- each precinct is read
 pub each_precinct_is_read : EachPrecinctIsRead
 each_precinct_is_read pick frames fits =
     let kept = picked pick.kind pick.source frames in
     let r = received pick frames in
-    (drain_keeps kept (record r { window = make_all_due r.window r.window.base }) (all_due_keeps kept r r.window.base (received_is pick frames fits))).2
+    are_read kept (flushed r).releases (drain_keeps kept (record r { window = make_all_due r.window r.window.base }) (all_due_keeps kept r r.window.base (received_is pick frames fits))).2
 
 -- and what was given stays
 pub given_stays : GivenStays
 given_stays pick frames =
     let r = received pick frames in
-    ((flushed (forgetful r)).precincts, ap (λ (s : Receiver). s.precincts) (precincts_join pick r).1)
+    ((flushed (forgetful r)).releases, ap (λ (s : Receiver). s.releases) (precincts_join pick r).1)
 
 -- frames in two parts
 frames_further : (pick : Pick) (r : Receiver) (frames later : List (List ℕ)) → take_frames pick r (frames ++ later) ≡ take_frames pick (take_frames pick r frames) later
@@ -254,16 +258,16 @@ unfolding take_frames
 frames_further pick r [] later = refl
 frames_further pick r (f ∷ frames) later = frames_further pick (take_frame pick r f) frames later
 
--- what more frames give comes behind what was given
-behind_given : (pick : Pick) (r : Receiver) (frames : List (List ℕ)) → (more : List Precinct) × ((take_frames pick r frames).precincts ≡ r.precincts ++ more)
+-- what more frames give comes after what was given
+behind_given : (pick : Pick) (r : Receiver) (frames : List (List ℕ)) → (more : List Release) × ((take_frames pick r frames).releases ≡ r.releases ++ more)
 unfolding take_frames
-behind_given pick r [] = ([], sym (append-nil r.precincts))
+behind_given pick r [] = ([], sym (append-nil r.releases))
 behind_given pick r (f ∷ frames) =
-    let one : (take_frame pick r f).precincts ≡ r.precincts ++ (take_frame pick (forgetful r) f).precincts = ap (λ (s : Receiver). s.precincts) ((precincts_join pick r).0 f) in
+    let one : (take_frame pick r f).releases ≡ r.releases ++ (take_frame pick (forgetful r) f).releases = ap (λ (s : Receiver). s.releases) ((precincts_join pick r).0 f) in
     let rest = behind_given pick (take_frame pick r f) frames in
-    ((take_frame pick (forgetful r) f).precincts ++ rest.0, rest.1 ∙ (ap (λ (l : List Precinct). l ++ rest.0) one ∙ append_assoc r.precincts (take_frame pick (forgetful r) f).precincts rest.0))
+    ((take_frame pick (forgetful r) f).releases ++ rest.0, rest.1 ∙ (ap (λ (l : List Release). l ++ rest.0) one ∙ append_assoc r.releases (take_frame pick (forgetful r) f).releases rest.0))
 
 pub given_grows : GivenGrows
 given_grows pick frames later =
     let more = behind_given pick (received pick frames) later in
-    (more.0, ap (λ (s : Receiver). s.precincts) (frames_further pick (new_receiver pick) frames later) ∙ more.1)
+    (more.0, ap (λ (s : Receiver). s.releases) (frames_further pick (new_receiver pick) frames later) ∙ more.1)

@@ -2,18 +2,19 @@
 use Rattle.std.proofs.Common.{◌≡◌, ◌⊎◌, ◌<◌, ◌+◌, ◌-◌, ◌==◌, ◌&&◌, ℕ, zero, suc, Bool, true, false, List, [], ◌∷◌, ◌++◌, length, take, drop, nat_le, Option, Some, None, subst, refl, sym, ◌∙◌, ap, inl, inr, arith, if◌then◌else◌}
 use Rattle.std.specs.List.{AllByRecursion}
 use Rattle.std.proofs.lemmas.Bool.{leb-true, and_parts}
+use Rattle.std.proofs.Math.Seq.{take-append_seam}
 use Rattle.wire_model.specs.Datagram.{Datagram}
 use Rattle.codestream_model.specs.Values.{Place, Block}
 use Rattle.codestream_model.specs.Bytes.{IsBytes}
 use Rattle.codestream_model.specs.PacketOrder.{pid}
 use Rattle.codestream_model.proofs.TreeLemmas.{either, equal_number}
 use Rattle.codestream_model.proofs.SegmentBytes.{bytes-drop}
-use Rattle.stream_model.specs.Report.{Precinct}
 use Rattle.stream_model.specs.Stream.{extended_number}
-use Rattle.stream_model.specs.ReadingLaws.{IsRead}
-use Rattle.stream_model.specs.Decoder.{Current, Mark, Decoder, Found, Whole, Part, Other, found_packet, Ruling, Releases, Changes, Waits, begin_at, begin_instead, mark_behind, run_of, release, is_place, from_place, rule_without_run, rule_of_packet, rule_before_mark, rule_at_mark, rule_in_run, rule_of_run, rule, Settled, settle, settled}
+use Rattle.stream_model.specs.ReadingLaws.{IsReleased}
+use Rattle.stream_model.specs.Decoder.{Current, Mark, Decoder, Found, Whole, Part, Other, found_packet, Release, Ruling, Releases, Changes, Waits, begin_at, begin_instead, mark_behind, run_of, release, is_place, from_place, rule_without_run, rule_of_packet, rule_before_mark, rule_at_mark, rule_in_run, rule_of_run, rule, Settled, settle, settled}
+use Rattle.stream_model.specs.RunLaws.{release_of}
 use Rattle.stream_model.proofs.PacketsFound.{found_is, segments_taken}
-use Rattle.stream_model.proofs.RunRules.{given, settle_releases, settle_changes, settle_waits}
+use Rattle.stream_model.proofs.RunRules.{settle_releases, settle_changes, settle_waits}
 use Rattle.stream_model.proofs.FrameRuns.{HeadCame, Runs, RunIs, Marked, MarkIs, IsPast, mark_left, runs_read, run_left}
 
 -- what is known of the main header in force, of the run and of the mark, where `next` is the number that comes next
@@ -27,7 +28,7 @@ DecoderIs frames next d = IsBytes d.bytes × HeadIs frames next d.current d.run 
 
 -- of what a rule does
 abbrev pub RulingIs : List (List ℕ) → ℕ → Ruling → Type 0
-RulingIs frames next (Releases x d) = IsRead frames x × DecoderIs frames next d
+RulingIs frames next (Releases x d) = IsReleased frames x × DecoderIs frames next d
 RulingIs frames next (Changes d) = DecoderIs frames next d
 RulingIs frames next (Waits d) = DecoderIs frames next d
 
@@ -42,7 +43,7 @@ is_same p q e =
     let of : ℕ → ℕ → ℕ → Place = λ x y z. record { c = x; r = y; k = z } in
     ap (λ n. of n p.r p.k) c ∙ (ap (λ n. of q.c n p.k) r ∙ ap (λ n. of q.c q.r n) k)
 
--- what stands from a place on begins with it, if there is anything
+-- what is from an offset on begins with it, if there is anything
 abbrev FromPlace : Place → List Place → List Place → Type 0
 FromPlace p order from = (from ≡ []) ⊎ ((before : List Place) × (later : List Place) × (from ≡ p ∷ later) × (order ≡ before ++ p ∷ later))
 
@@ -109,12 +110,13 @@ release_keeps frames next d c main p later blocks header size e fits h r k past 
     ap (λ n. take (n - header) (drop header d.bytes)) (sym all)
     ∙ (ap (λ n. take (length packet - n) (drop n d.bytes)) (sym first)
     ∙ (ap (λ (l : List ℕ). take (length packet - length s.header) (drop (length s.header) l)) whole ∙ t.0)) in
-    let is : given c p x ≡ record { stamp = c.stamp; pid = pid c.head p; place = p; blocks = blocks; bytes = take (size - header) (drop header d.bytes) } =
-    ap (λ (l : List Block). record { stamp = c.stamp; pid = pid c.head p; place = p; blocks = l; bytes = x.bytes }) same
-    ∙ ap (λ (l : List ℕ). record { stamp = c.stamp; pid = pid c.head p; place = p; blocks = blocks; bytes = l }) (sym own) in
-    let R : Precinct → Type 0 = λ y. IsRead frames y in
+    let raw : take size d.bytes ≡ packet = ap (λ n. take n d.bytes) (sym all) ∙ (ap (take (length packet)) whole ∙ take-append_seam packet more) in
+    let of : List Block → List ℕ → List ℕ → Release = λ bs l m. release_of c d.heads p (record { blocks = bs; bytes = l }) m in
+    let is : of x.blocks x.bytes packet ≡ of blocks (take (size - header) (drop header d.bytes)) (take size d.bytes) =
+    ap (λ bs. of bs x.bytes packet) same ∙ (ap (λ l. of blocks l packet) (sym own) ∙ ap (of blocks (take (size - header) (drop header d.bytes))) (sym raw)) in
+    let R : Release → Type 0 = λ y. IsReleased frames y in
     let B : List ℕ → Type 0 = λ l. RunIs frames c main next (run_of later) l in (
-      subst R is (runs_read frames c main next p later d.bytes h r x packet more s whole),
+      subst R is (runs_read frames c main next p later d.bytes h r d.heads x packet more s whole),
       keep frames next d c main (run_of later) (mark_behind size d.mark) (drop size d.bytes) e (bytes-drop size d.bytes fits) h
           (subst B (sym behind) (run_left frames c main next p later d.bytes r x packet more s whole))
           (mark_left frames c next size d.mark d.bytes k past),
@@ -128,7 +130,7 @@ idle_keeps frames next d c main None e fits h r m k =
     keep frames next d c main d.run d.mark [] e (λ i. let z : 0 < 256 = omega arith in z) h r (subst M (sym m) tt)
 idle_keeps frames next d c main (Some m) e fits h r same k = begin_keeps frames next d c main m e fits h k
 
--- a packet where no mark stands
+-- a packet without a mark
 packet_keeps : (frames : List (List ℕ)) (next : ℕ) (d : Decoder) (c : Current) (main : Datagram) (p : Place) (later : List Place) (f : Found) → d.current ≡ Some c → IsBytes d.bytes → HeadCame frames c main
     → d.run ≡ Some (p ∷ later) → Runs frames c main next p later d.bytes → d.mark ≡ None → found_packet c.head p d.bytes ≡ f → RulingIs frames next (rule_of_packet d c p later f)
 packet_keeps frames next d c main p later (Whole blocks header size) e fits h run r m g =
@@ -196,7 +198,7 @@ rule_keeps frames next d k = rule_by frames next d d.current refl k.0 k.1
 
 -- what the rules give, and the state that waits
 abbrev pub SettledIs : List (List ℕ) → ℕ → Settled → Type 0
-SettledIs frames next s = AllByRecursion (IsRead frames) s.precincts × DecoderIs frames next s.decoder
+SettledIs frames next s = AllByRecursion (IsReleased frames) s.releases × DecoderIs frames next s.decoder
 
 settle_by : (frames : List (List ℕ)) (next n : ℕ) (d : Decoder) (r : Ruling) → rule d d.current ≡ r → RulingIs frames next r → ((x : Decoder) → DecoderIs frames next x → SettledIs frames next (settle n x)) → SettledIs frames next (settle (suc n) d)
 settle_by frames next n d (Releases x after) e k ih =

@@ -12,22 +12,22 @@ use Rattle.codestream_model.specs.Packet.{Content, SpellsPacket}
 use Rattle.codestream_model.specs.Codestream.{SpellsPackets}
 use Rattle.stream_model.specs.Stream.{IsMainPayload, IsBodyPayload, extended_number}
 use Rattle.stream_model.specs.Reading.{IsAmong, IsBodyWith, FollowFrom, StartsAt}
-use Rattle.stream_model.specs.ReadingLaws.{IsRead}
+use Rattle.stream_model.specs.ReadingLaws.{IsReleased}
 use Rattle.stream_model.specs.Decoder.{Current, Mark, run_of, mark_behind}
 use Rattle.stream_model.proofs.Found.{packet_has_bytes}
 use Rattle.stream_model.proofs.CutPayloads.{all-append}
-use Rattle.stream_model.proofs.RunRules.{given}
+use Rattle.stream_model.specs.RunLaws.{release_of}
 
 -- the codestream bytes of datagrams, joined
 abbrev pub bytes_of : List Datagram → List ℕ
 bytes_of xs = flat_map (λ x. x.codestream) xs
 
--- the number behind datagrams that have consecutive numbers from this one on
+-- the number after datagrams that have consecutive numbers from this one on
 abbrev pub number_behind : ℕ → List Datagram → ℕ
 number_behind number [] = number
 number_behind number (x ∷ xs) = number_behind ((number + 1) % 2 ^ 24) xs
 
--- Bodies of a stamp among the frames, with consecutive numbers from this one on, and the number behind them
+-- Bodies of a stamp among the frames, with consecutive numbers from this one on, and the number after them
 pub record AreBodies (frames : List (List ℕ)) (stamp number next : ℕ) (xs : List Datagram) : Type 0 where
   pub each_came : AllByRecursion (IsAmong frames) xs
   pub each_body : AllByRecursion (λ x. IsBodyPayload x.payload) xs
@@ -41,14 +41,15 @@ pub record HeadCame (frames : List (List ℕ)) (c : Current) (main : Datagram) :
   pub is_main : IsMainPayload main.payload
   pub stamp : main.rtp.stamp ≡ c.stamp
   pub is_head : SpellsHead c.head main.codestream
+  pub header : c.header ≡ main.codestream
   pub order : IsPacketOrder c.head c.order
 
--- where a run began: as a reading starts, or, before its first Body, behind the Main
+-- where a run began: as a reading starts, or, before its first Body, after the Main
 abbrev pub Began : Head → List Place → Datagram → ℕ → List Datagram → ℕ → Place → Type 0
 Began h order main number [] at p = (at ≡ 0) × (number ≡ (extended_number main + 1) % 2 ^ 24) × ((later : List Place) × (order ≡ p ∷ later))
 Began h order main number (first ∷ others) at p = StartsAt h order main first at p
 
--- A run whose next precinct is this one, before these: the Bodies from the one in which it began, behind which `next` is the next
+-- A run whose next precinct is this one, before these: the Bodies from the one in which it began, after which `next` is the next
 -- number; where it began; the packets that were read since; and the bytes that are left.
 pub record Runs (frames : List (List ℕ)) (c : Current) (main : Datagram) (next : ℕ) (p : Place) (later : List Place) (bytes : List ℕ) : Type 0 where
   pub number : ℕ
@@ -74,7 +75,7 @@ RunIs frames c main next None bytes = Unit {0}
 RunIs frames c main next (Some []) bytes = Unit {0}
 RunIs frames c main next (Some (p ∷ later)) bytes = Runs frames c main next p later bytes
 
--- A mark in the bytes: it is that of a Body, at whose POS it stands; the Bodies from that one on have the bytes from there on.
+-- A mark in the bytes: it is that of a Body, at whose POS it is; the Bodies from that one on have the bytes from there on.
 pub record Marked (frames : List (List ℕ)) (c : Current) (next : ℕ) (bytes : List ℕ) (m : Mark) : Type 0 where
   pub fields : BodyFields
   pub body : Datagram
@@ -157,7 +158,7 @@ run_push frames c main next None bytes x r n = tt
 run_push frames c main next (Some []) bytes x r n = tt
 run_push frames c main next (Some (p ∷ later)) bytes x r n = runs_push frames c main next p later bytes x r n
 
--- and so does what a mark stands in
+-- and so does what a mark is in
 pub mark_push : (frames : List (List ℕ)) (c : Current) (next : ℕ) (mark : Option Mark) (bytes : List ℕ) (x : Datagram) → MarkIs frames c next mark bytes → IsNext frames c.stamp next x
     → MarkIs frames c (after_next next) mark (bytes ++ x.codestream)
 mark_push frames c next None bytes x k n = tt
@@ -177,7 +178,7 @@ mark_push frames c next (Some m) bytes x k n = record {
   from = k.from;
 }
 
--- a mark behind bytes that are gone
+-- a mark after bytes that are gone
 abbrev pub IsPast : ℕ → Option Mark → Type 0
 IsPast size None = Unit {0}
 IsPast size (Some m) = size ≤ m.at
@@ -211,14 +212,15 @@ packets_push h (q ∷ places) (y ∷ content) packets p x packet (front, back, f
 read_by : (frames : List (List ℕ)) (c : Current) (main : Datagram) (next : ℕ) (p : Place) (later : List Place) (bytes : List ℕ) (number at : ℕ) (bodies : List Datagram) (before gone : List Place) (start : Place) (said : List Content) (skipped packets : List ℕ)
     → HeadCame frames c main → AreBodies frames c.stamp number next bodies → Began c.head c.order main number bodies at start → c.order ≡ before ++ (gone ++ p ∷ later)
     → ((others : List Place) × (gone ++ p ∷ [] ≡ start ∷ others)) → bytes_of bodies ≡ skipped ++ (packets ++ bytes) → length skipped ≡ at → SpellsPackets c.head gone said packets
-    → (x : Content) (packet more : List ℕ) → SpellsPacket c.head p x packet → bytes ≡ packet ++ more → IsRead frames (given c p x)
-read_by frames c main next p later bytes number at [] before gone start said skipped packets h are began order first joined from are_packets x packet more s e =
+    → (n : ℕ) (x : Content) (packet more : List ℕ) → SpellsPacket c.head p x packet → bytes ≡ packet ++ more → IsReleased frames (release_of c n p x packet)
+read_by frames c main next p later bytes number at [] before gone start said skipped packets h are began order first joined from are_packets n x packet more s e =
     absurd (omega (arith, ap length joined, length-append skipped (packets ++ bytes), length-append packets bytes, ap length e, length-append packet more, packet_has_bytes c.head p x packet s))
-read_by frames c main next p later bytes number at (y ∷ others) before gone start said skipped packets h are began order first joined from are_packets x packet more s e =
+read_by frames c main next p later bytes number at (y ∷ others) before gone start said skipped packets h are began order first joined from are_packets n x packet more s e =
     let O : List Place → Type 0 = λ l. IsPacketOrder c.head l in
     let S : List Place → Type 0 = λ l. StartsAt c.head l main y at start in
-    let F : ℕ → Type 0 = λ n. FollowFrom n (y ∷ others) in (
-      record {
+    let F : ℕ → Type 0 = λ n. FollowFrom n (y ∷ others) in
+    record {
+      reading = record {
         main = main;
         first = y;
         others = others;
@@ -246,16 +248,18 @@ read_by frames c main next p later bytes number at (y ∷ others) before gone st
         joined = joined ∙ ap (λ (l : List ℕ). skipped ++ l) (ap (λ (l : List ℕ). packets ++ l) e ∙ sym (append_assoc packets packet more));
         from = from;
         are_packets = packets_push c.head gone said packets p x packet are_packets s;
-      },
-      refl,
-    )
+      };
+      names = refl;
+      packet = s;
+      header = h.header;
+    }
 
 pub runs_read : (frames : List (List ℕ)) (c : Current) (main : Datagram) (next : ℕ) (p : Place) (later : List Place) (bytes : List ℕ) → HeadCame frames c main → Runs frames c main next p later bytes
-    → (x : Content) (packet more : List ℕ) → SpellsPacket c.head p x packet → bytes ≡ packet ++ more → IsRead frames (given c p x)
-runs_read frames c main next p later bytes h r x packet more s e =
-    read_by frames c main next p later bytes r.number r.at r.bodies r.before r.gone r.start r.said r.skipped r.packets h r.are r.began r.order r.first r.joined r.from r.are_packets x packet more s e
+    → (n : ℕ) (x : Content) (packet more : List ℕ) → SpellsPacket c.head p x packet → bytes ≡ packet ++ more → IsReleased frames (release_of c n p x packet)
+runs_read frames c main next p later bytes h r n x packet more s e =
+    read_by frames c main next p later bytes r.number r.at r.bodies r.before r.gone r.start r.said r.skipped r.packets h r.are r.began r.order r.first r.joined r.from r.are_packets n x packet more s e
 
--- and goes on behind it
+-- and goes on after it
 pub run_left : (frames : List (List ℕ)) (c : Current) (main : Datagram) (next : ℕ) (p : Place) (later : List Place) (bytes : List ℕ) → Runs frames c main next p later bytes
     → (x : Content) (packet more : List ℕ) → SpellsPacket c.head p x packet → bytes ≡ packet ++ more → RunIs frames c main next (run_of later) more
 run_left frames c main next p [] bytes r x packet more s e = tt

@@ -33,7 +33,7 @@ low_numbers : {A : Type 0} (P : ℕ × A → Type 0) (k n : ℕ) (xs : List A) �
 low_numbers P k n [] h f = tt
 low_numbers P k n (x ∷ xs) h f = (f k x (omega arith), low_numbers P (k + 1) n xs (omega arith) f)
 
--- and what holds from it on of those behind them
+-- and what holds from it on of those after them
 high_numbers : {A : Type 0} (P : ℕ × A → Type 0) (k n : ℕ) (xs : List A) → n ≤ k → ((i : ℕ) (x : A) → n ≤ i → P (i, x)) → AllByRecursion P (enumerate_from k xs)
 high_numbers P k n [] h f = tt
 high_numbers P k n (x ∷ xs) h f = (f k x h, high_numbers P (k + 1) n xs (omega arith) f)
@@ -50,12 +50,12 @@ longer x extra = record { place = x.place; bytes = x.bytes ++ extra }
 start_low : (front rest : List Piece) (i : ℕ) → i ≤ length front → piece_start (front ++ rest) i ≡ total (take i front)
 start_low front rest i h = ap total (take-append-le i front rest h)
 
--- behind them,
+-- after them,
 start_last : (front : List Piece) (x : Piece) (rest : List Piece) → piece_start (front ++ x ∷ rest) (length front + 1) ≡ total front + length x.bytes
 start_last front x rest =
     ap total (take-append-add front (x ∷ rest) 1) ∙ (sum_by-append (λ (y : Piece). length y.bytes) front (x ∷ []) ∙ (let e : total front + total (x ∷ []) ≡ total front + length x.bytes = omega (arith, sum_by-cons (λ (y : Piece). length y.bytes) x []) in e))
 
--- and further behind
+-- and further after
 start_high : (front : List Piece) (x : Piece) (rest : List Piece) (i : ℕ) → length front + 1 ≤ i → total front + length x.bytes ≤ piece_start (front ++ x ∷ rest) i
 start_high front x rest i h =
     let n = i - length front - 1 in

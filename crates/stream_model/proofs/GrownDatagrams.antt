@@ -141,7 +141,7 @@ marker_stays p c d q j some e grown is low =
     let none : length q ≡ 0 = omega (arith, last, ap length is, length-append (payloads p c) q) in
     omega (arith, none_bytes q none, unended_bytes p c some e, ended_bytes p d some t, grown_bytes c.pieces d.pieces grown, ap (sum_by (λ b. length b)) is, sum_by-append (λ (b : List ℕ). length b) (payloads p c) q))))
 
--- one list of datagrams is the front of another
+-- one list of datagrams is a prefix of another
 abbrev pub Begins : List Datagram → List Datagram → Type 0
 Begins xs ys = (more : List Datagram) × (ys ≡ xs ++ more)
 
@@ -181,7 +181,7 @@ datagrams_placed p known =
     sym (flat_map-map (λ (ds : List Datagram). ds) (λ (x : ℕ × Known). those_of p x.0 (position_of p known x.0) x.1) (enumerate_from 0 known))
     ∙ ap (flat_map (λ (ds : List Datagram). ds)) (are_placed (many_of p) (those_of p) known)
 
--- a codestream whose main header has room is sent, and behind one whose main header has none nothing is
+-- a codestream whose main header has room is sent, and after one whose main header has none nothing is
 pub sent_with : (p : Plan) (c : Known) (known : List Known) → nat_le (length c.header) (room p) ≡ true → sendable p (c ∷ known) ≡ c ∷ sendable p known
 sent_with p c known e =
     let n = prefix_len (λ (x : Known). nat_le (length x.header) (room p)) known in
@@ -227,7 +227,7 @@ follow_front p i at next now some (inr (c, d, more, e, f, g, h, k, grown)) =
     let Q : List Known → Type 0 = λ l. Begins (all_of p i at (sendable p (c ∷ []))) (all_of p i at (sendable p l)) in
     subst P (sym e) (subst Q (sym f) (one_front p i at c d more some g h k grown))
 
--- behind the same codestreams
+-- after the same codestreams
 pub known_front : (p : Plan) (i at : ℕ) (common next now : List Known) → 1 ≤ room p → Follows next now → Begins (all_of p i at (sendable p (common ++ next))) (all_of p i at (sendable p (common ++ now)))
 known_front p i at [] next now some f = follow_front p i at next now some f
 known_front p i at (c ∷ common) next now some f = elim (either (nat_le (length c.header) (room p))) [
@@ -240,7 +240,7 @@ known_front p i at (c ∷ common) next now some f = elim (either (nat_le (length
       (r.0, ap (λ l. those_of p i at c ++ l) r.1 ∙ sym (append_assoc (those_of p i at c) (all_of p (i + 1) (at + many_of p c) (sendable p (common ++ next))) r.0)))
 ]
 
--- of at most so many
+-- of at most n
 pub take_front : (n : ℕ) (xs ys : List Datagram) → Begins xs ys → Begins (take n xs) (take n ys)
 take_front zero xs ys b = ([], refl)
 take_front (suc n) [] ys b = (take (suc n) ys, refl)

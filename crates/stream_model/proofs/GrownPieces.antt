@@ -13,7 +13,7 @@ use Rattle.stream_model.specs.Stream.{ArePackets}
 use Rattle.stream_model.specs.Cut.{Piece, pieces_of, IsOpened}
 use Rattle.stream_model.specs.Laws.{HasGrown}
 
--- where a packet stands whole its segments aren't lacking
+-- where a packet is whole, its segments aren't lacking
 whole_lacks_none : (h : Head) (p : Place) (x : Content) (packet more bytes : List ℕ) → SpellsPacket h p x packet → bytes ≡ packet ++ more → LacksSegments h p bytes → ⊥
 whole_lacks_none h p x packet more bytes s e t =
     let split : t.header ++ t.rest ≡ s.header ++ (x.bytes ++ more) = sym t.begins.whole ∙ (e ∙ (ap (λ (l : List ℕ). l ++ more) s.whole ∙ append_assoc s.header x.bytes more)) in
@@ -21,7 +21,7 @@ whole_lacks_none h p x packet more bytes s e t =
     let behind = (same_front t.header s.header t.rest (x.bytes ++ more) (ap length one.0) split).1 in
     omega (arith, t.lacks, ap segment_bytes one.1, s.segments, ap length behind, length-append x.bytes more)
 
--- with more bytes the segments are still lacking, or the packet stands whole
+-- with more bytes the segments are still lacking, or the packet is whole
 lacks_or_whole : (h : Head) (p : Place) (bytes more : List ℕ) → LacksSegments h p bytes
     → LacksSegments h p (bytes ++ more) ⊎ ((x : Content) × (packet : List ℕ) × (rest : List ℕ) × SpellsPacket h p x packet × (bytes ++ more ≡ packet ++ rest))
 lacks_or_whole h p bytes more t =
@@ -49,7 +49,7 @@ not_opened h p later x packet more bytes opened s e (inr t) = t.1 x packet more 
 from_nothing : (was now : List Piece) → was ≡ [] → HasGrown was now
 from_nothing was now e = inl e
 
--- a front of one packet has grown
+-- a prefix of one packet has grown
 from_front : (p : Place) (bytes extra : List ℕ) (more was now : List Piece) → was ≡ record { place = p; bytes = bytes } ∷ [] → now ≡ record { place = p; bytes = bytes ++ extra } ∷ more → HasGrown was now
 from_front p bytes extra more was now e f = inr ([], record { place = p; bytes = bytes }, extra, more, e, f)
 

@@ -29,7 +29,7 @@ or_true : (a : Bool) → (a || true) ≡ true
 or_true true = refl
 or_true false = refl
 
--- arrivals in which a position stands: some without it, then it, then others
+-- arrivals in which a position is: some without it, then it, then others
 abbrev pub Found : ℕ → List ℕ → Type 0
 Found i events = (before : List ℕ) × (after : List ℕ) × (events ≡ before ++ i ∷ after) × AllByRecursion (λ a. a ≢ i) before
 
@@ -71,7 +71,7 @@ ordered_is_in_time (suc n) i window some h =
     let free : clear i window (range_with_len 0 (suc n)) ≡ true = range_clear 0 (suc n) i window some (omega arith) in
     three (has_arrived (range_with_len 0 (suc n)) i) (nat_le 0 i) (clear i window (range_with_len 0 (suc n))) seen low free
 
--- an arrival of a position has some before it in which the position doesn't stand
+-- an arrival of a position has some before it in which the position isn't
 seen_by : (i x : ℕ) (xs : List ℕ) (b : Bool) → (b ≡ true → x ≡ i) → (b ≡ false → x ≢ i) → (has_arrived xs i ≡ true → Found i xs) → (b || has_arrived xs i) ≡ true → Found i (x ∷ xs)
 seen_by i x xs true e n ih h = ([], xs, ap (λ y. y ∷ xs) (e refl), tt)
 seen_by i x xs false e n ih h = let f = ih h in (x ∷ f.0, f.1, ap (λ ys. x ∷ ys) f.2, (n refl, f.3))
@@ -80,7 +80,7 @@ pub seen : (i : ℕ) (events : List ℕ) → has_arrived events i ≡ true → F
 seen i [] h = absurd (cc)
 seen i (x ∷ xs) h = seen_by i x xs (x == i) (eqb-true x i) (differ x i) (seen i xs) h
 
--- where a position doesn't stand, it didn't arrive
+-- where a position isn't among them, it didn't arrive
 pub unseen : (i : ℕ) (before : List ℕ) → AllByRecursion (λ a. a ≢ i) before → has_arrived before i ≡ false
 unseen i [] h = refl
 unseen i (x ∷ xs) h = rw (no_test x i h.0) (unseen i xs h.1)

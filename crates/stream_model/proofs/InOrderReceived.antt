@@ -9,9 +9,8 @@ use Rattle.wire_model.proofs.DatagramLaws.{datagram_is_computed}
 use Rattle.wire_model.proofs.RtpLaws.{rtp_is_read_one_way}
 use Rattle.wire_model.proofs.PayloadLaws.{payload_is_read_one_way}
 use Rattle.codestream_model.proofs.TreeLemmas.{same_number}
-use Rattle.stream_model.specs.Report.{Precinct}
 use Rattle.stream_model.specs.Stream.{Sent, datagrams_of, extended_number, packet_span, carried_at}
-use Rattle.stream_model.specs.Decoder.{Decoder, at_start, settled}
+use Rattle.stream_model.specs.Decoder.{Decoder, at_start, Release, precincts_released, settled}
 use Rattle.stream_model.specs.Window.{Window, Held, Kept, ahead, offer_ahead, offer, hold, Hand, Nothing, next_at, next}
 use Rattle.stream_model.specs.Receiver.{Pick, Receiver, decoded, followed, drained, drain, offered, is_source, take_datagram, take_frame, take_frames, received, flushed, counts_of}
 use Rattle.stream_model.specs.RunLaws.{fed, handed, passing, precincts_in}
@@ -23,8 +22,8 @@ use Rattle.stream_model.proofs.RunStates.{test}
 use Rattle.stream_model.proofs.RunLaws.{reached_placed, runs_give}
 
 -- a receiver that holds nothing, with the number that comes next
-abbrev ready : Option ℕ → Option ℕ → Decoder → List Precinct → ℕ → Receiver
-ready source base d xs kept = record { source = source; window = record { base = base; due = 0; held = [] }; decoder = d; precincts = xs; kept = kept; old = 0; refused = 0 }
+abbrev ready : Option ℕ → Option ℕ → Decoder → List Release → ℕ → Receiver
+ready source base d xs kept = record { source = source; window = record { base = base; due = 0; held = [] }; decoder = d; releases = xs; kept = kept; old = 0; refused = 0 }
 
 -- the datagram that is held is handed on, and then nothing is left
 hands : (n : ℕ) (x : Datagram) → next (record { base = Some n; due = 0; held = record { number = n; item = x } ∷ [] }) (Some n) ≡ Hand x (record { base = Some ((n + 1) % 2 ^ 24); due = 0; held = [] })
@@ -46,12 +45,12 @@ unfolding drained
 drained_none m r e = rw (e, drained) refl
 
 -- a datagram that is kept where nothing is held
-kept_one : (source base : Option ℕ) (d : Decoder) (xs : List Precinct) (k n : ℕ) (x : Datagram)
-    → drained 3 (record { source = source; window = record { base = Some n; due = 0; held = record { number = n; item = x } ∷ [] }; decoder = d; precincts = xs; kept = k; old = 0; refused = 0 })
-    ≡ ready source (Some ((n + 1) % 2 ^ 24)) (settled (decoded d x x.payload)).decoder (xs ++ (settled (decoded d x x.payload)).precincts) k
+kept_one : (source base : Option ℕ) (d : Decoder) (xs : List Release) (k n : ℕ) (x : Datagram)
+    → drained 3 (record { source = source; window = record { base = Some n; due = 0; held = record { number = n; item = x } ∷ [] }; decoder = d; releases = xs; kept = k; old = 0; refused = 0 })
+    ≡ ready source (Some ((n + 1) % 2 ^ 24)) (settled (decoded d x x.payload)).decoder (xs ++ (settled (decoded d x x.payload)).releases) k
 kept_one source base d xs k n x =
-    drained_hand 2 (record { source = source; window = record { base = Some n; due = 0; held = record { number = n; item = x } ∷ [] }; decoder = d; precincts = xs; kept = k; old = 0; refused = 0 }) x (record { base = Some ((n + 1) % 2 ^ 24); due = 0; held = [] }) (hands n x)
-    ∙ drained_none 1 (ready source (Some ((n + 1) % 2 ^ 24)) (settled (decoded d x x.payload)).decoder (xs ++ (settled (decoded d x x.payload)).precincts) k) refl
+    drained_hand 2 (record { source = source; window = record { base = Some n; due = 0; held = record { number = n; item = x } ∷ [] }; decoder = d; releases = xs; kept = k; old = 0; refused = 0 }) x (record { base = Some ((n + 1) % 2 ^ 24); due = 0; held = [] }) (hands n x)
+    ∙ drained_none 1 (ready source (Some ((n + 1) % 2 ^ 24)) (settled (decoded d x x.payload)).decoder (xs ++ (settled (decoded d x x.payload)).releases) k) refl
 
 -- the next datagram in order is kept
 abbrev IsNext : Option ℕ → ℕ → Type 0
@@ -77,9 +76,9 @@ held_at None n x is = refl
 held_at (Some base) n x is = ap (λ b. record { base = Some b; due = 0; held = record { number = n; item = x } ∷ [] }) is
 
 -- a frame of a stream in order
-frame_taken : (pick : Pick) (source base : Option ℕ) (d : Decoder) (xs : List Precinct) (k : ℕ) (x : Datagram) (frame : List ℕ) → IsDatagram x frame → 1 ≤ pick.window → pick.kind ≡ x.rtp.kind → (source ≡ None) ⊎ (source ≡ Some x.rtp.source) → IsNext base (extended_number x)
+frame_taken : (pick : Pick) (source base : Option ℕ) (d : Decoder) (xs : List Release) (k : ℕ) (x : Datagram) (frame : List ℕ) → IsDatagram x frame → 1 ≤ pick.window → pick.kind ≡ x.rtp.kind → (source ≡ None) ⊎ (source ≡ Some x.rtp.source) → IsNext base (extended_number x)
     → take_frame pick (ready source base d xs k) frame
-    ≡ ready (Some x.rtp.source) (Some ((extended_number x + 1) % 2 ^ 24)) (settled (decoded d x x.payload)).decoder (xs ++ (settled (decoded d x x.payload)).precincts) (k + 1)
+    ≡ ready (Some x.rtp.source) (Some ((extended_number x + 1) % 2 ^ 24)) (settled (decoded d x x.payload)).decoder (xs ++ (settled (decoded d x x.payload)).releases) (k + 1)
 frame_taken pick source base d xs k x frame is some kind from order =
     let c = datagram_is_computed rtp_is_read_one_way payload_is_read_one_way x frame is in
     let same : datagram_of frame ≡ x = sym c.1 in
@@ -101,9 +100,9 @@ CountUp base [] = Unit {0}
 CountUp base (x ∷ xs) = IsNext base (extended_number x) × CountUp (Some ((extended_number x + 1) % 2 ^ 24)) xs
 
 -- frames of a stream in order
-frames_taken : (pick : Pick) (source base : Option ℕ) (d : Decoder) (xs : List Precinct) (k from : ℕ) (datagrams : List Datagram) (frames : List (List ℕ)) → AllZip IsDatagram datagrams frames → 1 ≤ pick.window
+frames_taken : (pick : Pick) (source base : Option ℕ) (d : Decoder) (xs : List Release) (k from : ℕ) (datagrams : List Datagram) (frames : List (List ℕ)) → AllZip IsDatagram datagrams frames → 1 ≤ pick.window
     → AllByRecursion (λ x. (x.rtp.source ≡ from) × (x.rtp.kind ≡ pick.kind)) datagrams → (source ≡ None) ⊎ (source ≡ Some from) → CountUp base datagrams → (at : ℕ)
-    → (last : Option ℕ) × (end : Option ℕ) × (take_frames pick (ready source base d xs k) frames ≡ ready last end (fed d (handed (λ i. true) at datagrams)).decoder (xs ++ (fed d (handed (λ i. true) at datagrams)).precincts) (k + length frames))
+    → (last : Option ℕ) × (end : Option ℕ) × (take_frames pick (ready source base d xs k) frames ≡ ready last end (fed d (handed (λ i. true) at datagrams)).decoder (xs ++ (fed d (handed (λ i. true) at datagrams)).releases) (k + length frames))
 unfolding take_frames
 frames_taken pick source base d xs k from [] [] a some one is up at =
     let e : k ≡ k + 0 = omega arith in
@@ -114,17 +113,17 @@ frames_taken pick source base d xs k from (x ∷ datagrams) (f ∷ frames) a som
     let s = settled (decoded d x x.payload) in
     let mine : (source ≡ None) ⊎ (source ≡ Some x.rtp.source) = elim is [ inl e ↦ inl e | inr e ↦ inr (e ∙ ap Some (sym one.0.0)) ] in
     let first = frame_taken pick source base d xs k x f a.0 some (sym one.0.1) mine up.0 in
-    let next = frames_taken pick (Some x.rtp.source) (Some ((extended_number x + 1) % 2 ^ 24)) s.decoder (xs ++ s.precincts) (k + 1) from datagrams frames a.1 some one.1 (inr (ap Some one.0.0)) up.1 (at + 1) in
+    let next = frames_taken pick (Some x.rtp.source) (Some ((extended_number x + 1) % 2 ^ 24)) s.decoder (xs ++ s.releases) (k + 1) from datagrams frames a.1 some one.1 (inr (ap Some one.0.0)) up.1 (at + 1) in
     let e : k + 1 + length frames ≡ k + suc (length frames) = omega arith in
     let more = fed s.decoder (handed (λ i. true) (at + 1) datagrams) in (
       next.0,
       next.1,
       ap (λ r. take_frames pick r frames) first
-          ∙ (next.2 ∙ (ap (λ l. ready next.0 next.1 more.decoder l (k + 1 + length frames)) (append_assoc xs s.precincts more.precincts) ∙ ap (ready next.0 next.1 more.decoder (xs ++ (s.precincts ++ more.precincts))) e)),
+          ∙ (next.2 ∙ (ap (λ l. ready next.0 next.1 more.decoder l (k + 1 + length frames)) (append_assoc xs s.releases more.releases) ∙ ap (ready next.0 next.1 more.decoder (xs ++ (s.releases ++ more.releases))) e)),
     )
 
 -- at the end nothing is left
-flushed_ready : (source base : Option ℕ) (d : Decoder) (xs : List Precinct) (k : ℕ) → flushed (ready source base d xs k) ≡ ready source base d xs k
+flushed_ready : (source base : Option ℕ) (d : Decoder) (xs : List Release) (k : ℕ) → flushed (ready source base d xs k) ≡ ready source base d xs k
 flushed_ready source None d xs k = drained_none 0 (ready source None d xs k) refl
 flushed_ready source (Some base) d xs k = drained_none 0 (ready source (Some base) d xs k) refl
 
@@ -163,15 +162,15 @@ in_order_gives_all sent codestreams datagrams pick c some kind source =
     let f = frames_taken pick pick.source None at_start [] 0 c.source all datagrams c.are_datagrams some one source (counted_up c.number 0 all None numbers tt) 0 in
     let rules = runs_give sent codestreams datagrams (λ i. true) c in
     let fed_all = fed at_start (handed (λ i. true) 0 all) in
-    let every : fed_all.precincts ≡ flat_map precincts_in sent = rules.0 ∙ (reached_placed (λ i. true) sent ∙ all_reached 0 0 sent) in
+    let every : precincts_released fed_all.releases ≡ flat_map precincts_in sent = rules.0 ∙ (reached_placed (λ i. true) sent ∙ all_reached 0 0 sent) in
     let got = received pick datagrams in
-    let is : got ≡ ready f.0 f.1 fed_all.decoder fed_all.precincts (0 + length datagrams) = f.2 in
-    let at_end : flushed got ≡ ready f.0 f.1 fed_all.decoder fed_all.precincts (0 + length datagrams) = ap flushed is ∙ flushed_ready f.0 f.1 fed_all.decoder fed_all.precincts (0 + length datagrams) in
+    let is : got ≡ ready f.0 f.1 fed_all.decoder fed_all.releases (0 + length datagrams) = f.2 in
+    let at_end : flushed got ≡ ready f.0 f.1 fed_all.decoder fed_all.releases (0 + length datagrams) = ap flushed is ∙ flushed_ready f.0 f.1 fed_all.decoder fed_all.releases (0 + length datagrams) in
     let u : fed_all.decoder.unsupported ≡ 0 = rules.1.unsupported in
     let g : fed_all.decoder.disagreed ≡ 0 = rules.1.disagreed in
     let b : fed_all.decoder.broken ≡ 0 = rules.1.broken in
     let z : 0 + length datagrams ≡ length datagrams = omega arith in (
-      ap (λ (r : Receiver). r.precincts) is ∙ every,
-      ap (λ (r : Receiver). r.precincts) at_end ∙ every,
+      ap (λ (r : Receiver). precincts_released r.releases) is ∙ every,
+      ap (λ (r : Receiver). precincts_released r.releases) at_end ∙ every,
       ap counts_of at_end ∙ rw (u, g, b, z) refl,
     )

@@ -67,6 +67,7 @@ pub mod FrameReceivers
 pub mod FramePicked
 pub mod FrameKept
 pub mod WorkedReadings
+pub mod WorkedReleases
 pub mod ThinnedTimes
 pub mod ThinnedBodies
 pub mod ThinnedCuts

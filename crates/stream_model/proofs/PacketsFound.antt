@@ -1,4 +1,4 @@
--- What `parse` finds where a packet should stand: a whole one exactly where the bytes begin with one.
+-- What `parse` finds where a packet should be: a whole one exactly where the bytes begin with one.
 use Rattle.std.proofs.Common.{◌≡◌, ◌≤◌, ◌+◌, ◌-◌, ℕ, Bool, true, false, List, [], ◌∷◌, ◌++◌, length, take, drop, nat_le, nat_lt, subst, refl, sym, ◌∙◌, ap, inl, inr, arith, append_assoc, if◌then◌else◌}
 use Rattle.std.proofs.lemmas.Bool.{cases_lt, le-leb, lt-leb}
 use Rattle.std.proofs.lemmas.List.{length-append, length-take, take_at, drop_at, take-append-drop}
@@ -41,7 +41,7 @@ packet_found h p x packet rest s =
     ∙ (ap (λ (n : ℕ). found_segments (packet ++ rest) x.blocks (length s.header) n) size
     ∙ rw (short, there) refl)))
 
--- its segments are taken, and the bytes behind it are left
+-- its segments are taken, and the bytes after it are left
 pub segments_taken : (h : Head) (p : Place) (x : Content) (packet rest : List ℕ) (s : SpellsPacket h p x packet)
     → (take (length packet - length s.header) (drop (length s.header) (packet ++ rest)) ≡ x.bytes) × (drop (length packet) (packet ++ rest) ≡ rest)
 segments_taken h p x packet rest s =
@@ -61,7 +61,7 @@ found_by h p bytes r some few e =
 begun : (h : Head) (p : Place) (bytes header rest : List ℕ) (blocks : List Block) → BeginsPacket h p blocks header rest bytes → marked_header_of (grids h p) h.eph bytes ≡ Done (length header) blocks
 begun h p bytes header rest blocks b = ap (marked_header_of (grids h p) h.eph) b.whole ∙ marked_read (grids h p) h.eph blocks header rest (own_bands h p) b.is_header
 
--- where less than a packet stands it is found,
+-- where there is less than a packet it is found,
 part_found : (h : Head) (p : Place) (bytes : List ℕ) → 1 ≤ length bytes → NeedsPacketBytes h p bytes → found_packet h p bytes ≡ Part
 part_found h p bytes some n = elim n.unfinished [
   | inl t ↦ found_by h p bytes Need some n.few_blocks (marked_needs_read (grids h p) h.eph bytes (own_bands h p) t)
@@ -83,7 +83,7 @@ other_found h p bytes (some, inr (few, inr t)) =
     let long : nat_lt 16777216 size ≡ true = le-leb 16777217 size (omega (arith, t.long)) in
     found_by h p bytes (Done (length t.header) t.blocks) some few (begun h p bytes t.header t.rest t.blocks t.begins) ∙ rw long refl
 
--- what stands there is found
+-- what is there is found
 pub stands_found : (h : Head) (p : Place) (bytes : List ℕ) (f : Found) → FoundIs h p bytes f → found_packet h p bytes ≡ f
 unfolding found_packet
 stands_found h p bytes (Whole blocks header size) (x, packet, more, s, e, b, n, m) =
@@ -93,7 +93,7 @@ stands_found h p [] Part (inr n) = refl
 stands_found h p (b ∷ bytes) Part (inr n) = part_found h p (b ∷ bytes) (omega arith) n
 stands_found h p bytes Other t = other_found h p bytes t
 
--- what stands behind a header
+-- what is after a header
 segments_stand : (h : Head) (p : Place) (bytes : List ℕ) (used : ℕ) (own : List Block) → IsBytes bytes → 1 ≤ length bytes → HasFewBlocks h p → marked_header_of (grids h p) h.eph bytes ≡ Done used own → (f : Found) × FoundIs h p bytes f
 segments_stand h p bytes used own fits some few done =
     let head = take used bytes in
@@ -116,13 +116,13 @@ segments_stand h p bytes used own fits some few done =
       ]
     ]
 
--- what stands, by the answer to its header,
+-- what is there, by the answer to its header,
 header_stands : (h : Head) (p : Place) (bytes : List ℕ) (r : HeaderReading) → IsBytes bytes → 1 ≤ length bytes → HasFewBlocks h p → marked_header_of (grids h p) h.eph bytes ≡ r → (f : Found) × FoundIs h p bytes f
 header_stands h p bytes (Done used own) fits some few e = segments_stand h p bytes used own fits some few e
 header_stands h p bytes Need fits some few e = (Part, inr (record { few_blocks = few; unfinished = inl (marked_needs_sound (grids h p) h.eph bytes fits (own_bands h p) e) }))
 header_stands h p bytes (Bad why) fits some few e = (Other, (some, inr (few, inl (why, marked_refusal_sound (grids h p) h.eph bytes why fits (own_bands h p) e))))
 
--- and what stands at all
+-- and what is at all
 what_stands : (h : Head) (p : Place) (bytes : List ℕ) → IsBytes bytes → (f : Found) × FoundIs h p bytes f
 what_stands h p [] fits = (Part, inl refl)
 what_stands h p (b ∷ bytes) fits = elim (cases_lt 65536 (block_count (grids h p))) [
@@ -130,7 +130,7 @@ what_stands h p (b ∷ bytes) fits = elim (cases_lt 65536 (block_count (grids h 
   | inr few ↦ header_stands h p (b ∷ bytes) (marked_header_of (grids h p) h.eph (b ∷ bytes)) fits (omega arith) few refl
 ]
 
--- what is found is what stands there
+-- what is found is what is there
 pub found_is : FoundIsWhatStands
 found_is h p bytes f fits = (
   λ e.

@@ -43,7 +43,7 @@ none_of_none stamp bytes xs z (inl (none, e)) = e
 none_of_none stamp bytes xs z (inr (h, later, at, rest, b, lacks, e)) =
     absurd (omega (arith, ap length b.whole, length-append b.head (b.packets ++ rest), head_long h b.head b.is_head))
 
--- what is parsed behind whole codestreams
+-- what is parsed after whole codestreams
 parsed_behind : (m stamp step n : ℕ) (rest : List ℕ) (xs : List Precinct) → IsBytes rest → ArePrecinctsBehind stamp step n rest xs → ((n ≡ 65536) → m ≡ 0) → ((n < 65536) → m ≡ 0 → length rest ≡ 0)
     → parsed m (stamp_of stamp step n) step rest ≡ xs
 unfolding parsed
@@ -88,7 +88,7 @@ they_say (c ∷ codestreams) a =
     let r = they_say codestreams a.1 in
     (record { head = a.0.0; content = a.0.1 } ∷ r.0, (a.0.2, r.1))
 
--- behind the last codestream nothing follows
+-- after the last codestream nothing follows
 none_follow : (stamp step n : ℕ) → n ≤ 65536 → ArePrecinctsBehind stamp step n [] []
 none_follow stamp step n h = elim (cases_lt n 65536) [
   | inl t ↦ inr (t, inl (empty_begins, refl))

@@ -142,7 +142,7 @@ order_is h head places s fits order =
     let steps = All-weaker IsStep (λ step. (0 < step.x) × (0 < step.y)) (λ step is. (is.some_x, is.some_y)) h.steps limits.each_step in
     packet_order_is_one h (packet_order h) places (packet_order_is_computed h steps) order
 
--- a walk behind a main header, and packets
+-- a walk after a main header, and packets
 pub walk_begun : (h : Head) (stamp at : ℕ) (later : List Place) (rest bytes : List ℕ) (b : BeginsCodestream h later at rest bytes) → IsBytes bytes
     → walk_behind (head_of bytes) stamp bytes ≡ found_before (precincts_of h stamp b.before b.content) (walk h stamp at later rest)
 walk_begun h stamp at later rest bytes b fits =
@@ -218,7 +218,7 @@ pub codestream_long : (h : Head) (content : List Content) (codestream : List ℕ
 codestream_long h content codestream s =
     omega (arith, ap length s.whole, length-append s.head (s.packets ++ 255 ∷ 217 ∷ []), length-append s.packets (255 ∷ 217 ∷ []))
 
--- bytes behind others are bytes
+-- bytes after others are bytes
 pub bytes_behind : (xs ys : List ℕ) → IsBytes (xs ++ ys) → IsBytes ys
 bytes_behind [] ys t = t
 bytes_behind (x ∷ xs) ys t = bytes_behind xs ys (λ i. t (suc i))

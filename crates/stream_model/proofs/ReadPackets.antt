@@ -1,4 +1,4 @@
--- All bytes are whole codestreams, and behind them whole packets up to the first that isn't there.
+-- All bytes are whole codestreams, and after them whole packets up to the first that isn't there.
 use Rattle.std.proofs.Common.{◌≡◌, ◌<◌, ◌⊎◌, ◌+◌, ℕ, zero, suc, true, false, List, [], ◌∷◌, ◌++◌, length, take, drop, Result, Ok, Err, refl, sym, ◌∙◌, ap, subst, inl, inr, arith, append_assoc}
 use Rattle.std.proofs.lemmas.List.{append-nil, take-append-drop}
 use Rattle.std.proofs.lemmas.List.Elements.{All-weaker}
@@ -32,7 +32,7 @@ packet_or_none h p bytes (Whole blocks header size) fits e = inl (found_sound h 
 packet_or_none h p bytes Part fits e = inr (λ b. let c : Part ≡ Whole b.0.blocks (length b.3.header) (length b.1) = sym e ∙ (ap (found_packet h p) b.4 ∙ packet_found h p b.0 b.1 b.2 b.3) in cc)
 packet_or_none h p bytes Other fits e = inr (λ b. let c : Other ≡ Whole b.0.blocks (length b.3.header) (length b.1) = sym e ∙ (ap (found_packet h p) b.4 ∙ packet_found h p b.0 b.1 b.2 b.3) in cc)
 
--- EOC stands there or it doesn't
+-- EOC is there or it doesn't
 eoc_or_none : (h : Head) (at : ℕ) (bytes : List ℕ) → BeginsWithEoc h at bytes ⊎ (BeginsWithEoc h at bytes → ⊥)
 eoc_or_none h at bytes = elim (either (is_end h at bytes)) [
   | inl t ↦ inl (end_there h at bytes t)
@@ -76,7 +76,7 @@ first_packets h (p ∷ places) bytes fits = elim (packet_or_none h p bytes (foun
 abbrev BeginsWithCodestream : List ℕ → Type 0
 BeginsWithCodestream bytes = (h : Head) × (content : List Content) × (codestream : List ℕ) × (more : List ℕ) × SpellsCodestream h content codestream × (bytes ≡ codestream ++ more)
 
--- behind a main header the packets stand, and then EOC or something else
+-- after a main header the packets follow, and then EOC or something else
 behind_packets : (h : Head) (stamp : ℕ) (head bytes body : List ℕ) → SpellsHead h head → IsPacketOrder h (packet_order h) → bytes ≡ head ++ body → FirstPackets h (packet_order h) body
     → BeginsWithCodestream bytes ⊎ ((xs : List Precinct) × ArePrecinctsOf stamp bytes xs)
 behind_packets h stamp head bytes body s order whole f =
@@ -123,7 +123,7 @@ behind_head stamp bytes (Ok h) fits e =
     let body = drop h.length bytes in
     behind_packets h stamp (take h.length bytes) bytes body s (packet_order_is_computed h steps) whole (first_packets h (packet_order h) body (bytes_behind (take h.length bytes) body (subst P whole fits)))
 
--- of at most so many codestreams the first, and what is behind them
+-- of at most n codestreams the first, and what is after them
 record ReadIs (n stamp step i : ℕ) (bytes : List ℕ) : Type 0 where
   said : List Said
   codestreams : List (List ℕ)

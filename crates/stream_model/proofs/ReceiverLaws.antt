@@ -9,22 +9,22 @@ use Rattle.wire_model.specs.Datagram.{Datagram, IsDatagram}
 use Rattle.stream_model.specs.Report.{Counts}
 use Rattle.stream_model.specs.Arrivals.{is_of_kind, source_of, picked_source, picked, Arrive, datagram_at, in_time, base, highest_arrival, positions_in_time}
 use Rattle.stream_model.specs.Stream.{Sent, datagrams_of, Carry, extended_number}
-use Rattle.stream_model.specs.Decoder.{Decoder, at_start, Settled, take_gap}
+use Rattle.stream_model.specs.Decoder.{Decoder, at_start, precincts_released, Settled, take_gap}
 use Rattle.stream_model.specs.Window.{Window}
 use Rattle.stream_model.specs.Receiver.{Pick, Receiver, new_receiver, received, flushed}
-use Rattle.stream_model.specs.RunLaws.{fed, handed, given_before, reached_in}
-use Rattle.stream_model.specs.StreamLaws.{HasFed, HandsOnInOrder, GivesWhatIsReached, WindowIsAtBase}
+use Rattle.stream_model.specs.RunLaws.{fed, handed, given_before, releases_reached}
+use Rattle.stream_model.specs.StreamLaws.{HasFed, HandsOnInOrder, GivesWhatIsReached, ReleasesWhatIsReached, WindowIsAtBase}
 use Rattle.stream_model.proofs.Bases.{in_time-le-highest, not_true}
 use Rattle.stream_model.proofs.ArrivalSteps.{base_most, highest_in_time}
 use Rattle.stream_model.proofs.CountedFrames.{each_frame_is_counted_once}
 use Rattle.stream_model.proofs.InOrderReceived.{zip_length}
-use Rattle.stream_model.proofs.RunLaws.{runs_give}
+use Rattle.stream_model.proofs.RunLaws.{runs_give, runs_release, stream_whole, released_is_reached}
 use Rattle.stream_model.proofs.WindowSteps.{num}
 use Rattle.stream_model.proofs.WindowDrains.{items, items_same}
 use Rattle.stream_model.proofs.ReceiverSteps.{fed_further}
 use Rattle.stream_model.proofs.ReceiverRuns.{Known, IsStreamAt, frames_known, AtEnd, flush_known, drained_empty}
 
--- a datagram that stands nowhere
+-- a datagram that is at no position
 pub nowhere : Datagram
 nowhere = record { rtp = record { marker = false; kind = 0; number = 0; stamp = 0; source = 0 }; payload = Main (record { ordh = 4; eseq = 0; xtrac = 0 }); codestream = [] }
 
@@ -42,7 +42,7 @@ handed_items there dg k (x ∷ xs) h =
 
 -- trailing gaps give nothing, and count nothing
 abbrev AddsNothing : Decoder → Settled → Type 0
-AddsNothing d s = (s.precincts ≡ []) × (s.decoder.unsupported ≡ d.unsupported) × (s.decoder.disagreed ≡ d.disagreed) × (s.decoder.broken ≡ d.broken)
+AddsNothing d s = (s.releases ≡ []) × (s.decoder.unsupported ≡ d.unsupported) × (s.decoder.disagreed ≡ d.disagreed) × (s.decoder.broken ≡ d.broken)
 
 -- however many they are
 trailing : (d : Decoder) (there : ℕ → Bool) (dg : ℕ → Datagram) (p n : ℕ) → ((i : ℕ) → p ≤ i → there i ≡ false) → AddsNothing d (fed d (items there dg p n))
@@ -51,9 +51,9 @@ trailing d there dg p (suc n) none =
     let P : Bool → Type 0 = λ b. AddsNothing d (fed d ((if b then Some (dg p) else None) ∷ items there dg (p + 1) n)) in
     subst P (sym (none p (omega arith))) (trailing (take_gap d) there dg (p + 1) n (λ i low. none i (omega arith)))
 
--- what was fed up to a position behind which nothing is there is what is reached
+-- what was fed up to a position after which nothing is there is what is reached
 reached_by : (sent : List Sent) (codestreams datagrams : List (List ℕ)) (there : ℕ → Bool) (q : ℕ) → Carry sent codestreams datagrams → q ≤ length datagrams → ((i : ℕ) → q ≤ i → there i ≡ false)
-    → ((fed at_start (items there (at (flat_map datagrams_of sent)) 0 q)).precincts ≡ reached_in there sent)
+    → ((fed at_start (items there (at (flat_map datagrams_of sent)) 0 q)).releases ≡ releases_reached there 0 0 sent)
     × ((fed at_start (items there (at (flat_map datagrams_of sent)) 0 q)).decoder.unsupported ≡ 0) × ((fed at_start (items there (at (flat_map datagrams_of sent)) 0 q)).decoder.disagreed ≡ 0) × ((fed at_start (items there (at (flat_map datagrams_of sent)) 0 q)).decoder.broken ≡ 0)
 reached_by sent codestreams datagrams there q c within none =
     let xs = flat_map datagrams_of sent in
@@ -63,9 +63,9 @@ reached_by sent codestreams datagrams there q c within none =
     let rules = runs_give sent codestreams datagrams there c in
     let list : handed there 0 xs ≡ items there dg 0 n = handed_items there dg 0 xs (λ j. ap dg (let e : 0 + j ≡ j = omega arith in e)) in
     let split = fed_further there dg q n (omega (arith, within, size)) in
-    let all : fed at_start (handed there 0 xs) ≡ given_before (fed at_start (items there dg 0 q)).precincts (fed (fed at_start (items there dg 0 q)).decoder (items there dg q (n - q))) = ap (fed at_start) list ∙ split in
+    let all : fed at_start (handed there 0 xs) ≡ given_before (fed at_start (items there dg 0 q)).releases (fed (fed at_start (items there dg 0 q)).decoder (items there dg q (n - q))) = ap (fed at_start) list ∙ split in
     let t = trailing (fed at_start (items there dg 0 q)).decoder there dg q (n - q) none in (
-      sym (ap (λ (s : Settled). s.precincts) all ∙ (ap (λ l. (fed at_start (items there dg 0 q)).precincts ++ l) t.0 ∙ append-nil (fed at_start (items there dg 0 q)).precincts)) ∙ rules.0,
+      sym (ap (λ (s : Settled). s.releases) all ∙ (ap (λ l. (fed at_start (items there dg 0 q)).releases ++ l) t.0 ∙ append-nil (fed at_start (items there dg 0 q)).releases)) ∙ runs_release sent codestreams datagrams there c,
       sym t.1 ∙ (sym (ap (λ (s : Settled). s.decoder.unsupported) all) ∙ rules.1.unsupported),
       sym t.2 ∙ (sym (ap (λ (s : Settled). s.decoder.disagreed) all) ∙ rules.1.disagreed),
       sym t.3 ∙ (sym (ap (λ (s : Settled). s.decoder.broken) all) ∙ rules.1.broken),
@@ -135,7 +135,7 @@ at_end number dg end window [] r few (w, d, p, k) =
         none = λ i low. refl;
         least = λ top low free. omega arith;
         decoder = ap (λ (x : Receiver). x.decoder) is ∙ d;
-        precincts = ap (λ (x : Receiver). x.precincts) is ∙ p;
+        releases = ap (λ (x : Receiver). x.releases) is ∙ p;
         counts = (ap (λ (x : Receiver). x.kept) is, ap (λ (x : Receiver). x.refused) is, ap (λ (x : Receiver). x.source) is);
       },
       k,
@@ -144,14 +144,14 @@ at_end number dg end window (x ∷ xs) r few (h, k) = (flush_known number dg end
 
 -- and before it
 before_end : (number : ℕ) (dg : ℕ → Datagram) (end window : ℕ) (events : List ℕ) (r : Receiver) → 1 ≤ window → Known number dg end window events r
-    → (q : ℕ) × (q ≤ end) × (r.precincts ≡ (fed at_start (items (λ i. in_time events i window && nat_lt i (base events window)) dg 0 q)).precincts) × ((i : ℕ) → q ≤ i → (in_time events i window && nat_lt i (base events window)) ≡ false)
+    → (q : ℕ) × (q ≤ end) × (r.releases ≡ (fed at_start (items (λ i. in_time events i window && nat_lt i (base events window)) dg 0 q)).releases) × ((i : ℕ) → q ≤ i → (in_time events i window && nat_lt i (base events window)) ≡ false)
 before_end number dg end window [] r some (w, d, p, k) = (0, omega arith, p, λ i low. refl)
 before_end number dg end window (x ∷ xs) r some (h, k) =
     let b = base (x ∷ xs) window in
     let t : ℕ → Bool = λ i. in_time (x ∷ xs) i window in
     let u : ℕ → Bool = λ i. t i && nat_lt i b in
     let same : items t dg 0 b ≡ items u dg 0 b = items_same t u dg 0 b (λ i low high. let e : nat_lt i b ≡ true = lt-ltb i b (omega arith) in rw e (and_true (t i))) in
-    (b, h.within, h.precincts ∙ ap (λ l. (fed at_start l).precincts) same, λ i low. let e : nat_lt i b ≡ false = lt-leb (suc i) b (omega arith) in rw e (and_not (t i)))
+    (b, h.within, h.releases ∙ ap (λ l. (fed at_start l).releases) same, λ i low. let e : nat_lt i b ≡ false = lt-leb (suc i) b (omega arith) in rw e (and_not (t i)))
 
 -- counts by their parts
 abbrev counts_with : ℕ → ℕ → ℕ → ℕ → ℕ → ℕ → Counts
@@ -162,6 +162,19 @@ counts_by : (k o f u d b k' o' f' u' d' b' : ℕ) → k ≡ k' → o ≡ o' → 
     → counts_with k o f u d b ≡ counts_with k' o' f' u' d' b'
 counts_by k o f u d b k' o' f' u' d' b' e1 e2 e3 e4 e5 e6 = rw (e1, e2, e3, e4, e5, e6) refl
 
+-- the rules release what is reached
+pub releases_what_is_reached : ReleasesWhatIsReached
+releases_what_is_reached sent codestreams datagrams frames events pick c some a =
+    let dg = at (flat_map datagrams_of sent) in
+    let end = length datagrams in
+    let r = received pick frames in
+    let k = all_known sent codestreams datagrams frames events pick c some a in
+    let early = before_end c.number dg end pick.window events r some k.0 in
+    let now = reached_by sent codestreams datagrams (λ i. in_time events i pick.window && nat_lt i (base events pick.window)) early.0 c early.1 early.3 in
+    let e = (at_end c.number dg end pick.window events r c.few k.0).0 in
+    let last = reached_by sent codestreams datagrams (λ i. in_time events i pick.window) e.q c e.within e.none in
+    (early.2 ∙ now.0, e.releases ∙ last.0)
+
 -- the rules give what is reached
 pub gives_what_is_reached : GivesWhatIsReached
 gives_what_is_reached sent codestreams datagrams frames events pick c some a =
@@ -169,8 +182,8 @@ gives_what_is_reached sent codestreams datagrams frames events pick c some a =
     let end = length datagrams in
     let r = received pick frames in
     let k = all_known sent codestreams datagrams frames events pick c some a in
-    let early = before_end c.number dg end pick.window events r some k.0 in
-    let now = reached_by sent codestreams datagrams (λ i. in_time events i pick.window && nat_lt i (base events pick.window)) early.0 c early.1 early.3 in
+    let all = releases_what_is_reached sent codestreams datagrams frames events pick c some a in
+    let whole = stream_whole sent codestreams datagrams c in
     let late = at_end c.number dg end pick.window events r c.few k.0 in
     let e = late.0 in
     let last = reached_by sent codestreams datagrams (λ i. in_time events i pick.window) e.q c e.within e.none in
@@ -179,8 +192,8 @@ gives_what_is_reached sent codestreams datagrams frames events pick c some a =
     let kept : s.kept ≡ length (positions_in_time events pick.window) = e.counts.0 ∙ late.1 in
     let refused : s.refused ≡ length frames - length events = omega (arith, e.counts.1, k.1) in
     let old : s.old ≡ length events - length (positions_in_time events pick.window) = omega (arith, sum, kept, e.counts.1, k.1) in (
-      early.2 ∙ now.0,
-      e.precincts ∙ last.0,
+      ap precincts_released all.0 ∙ released_is_reached (λ i. in_time events i pick.window && nat_lt i (base events pick.window)) sent whole,
+      ap precincts_released all.1 ∙ released_is_reached (λ i. in_time events i pick.window) sent whole,
       counts_by s.kept s.old s.refused s.decoder.unsupported s.decoder.disagreed s.decoder.broken (length (positions_in_time events pick.window)) (length events - length (positions_in_time events pick.window)) (length frames - length events) 0 0 0 kept old refused
           (ap (λ (d : Decoder). d.unsupported) e.decoder ∙ last.1) (ap (λ (d : Decoder). d.disagreed) e.decoder ∙ last.2) (ap (λ (d : Decoder). d.broken) e.decoder ∙ last.3),
     )
@@ -210,8 +223,8 @@ front_items there xs n most =
     front_handed there (at xs) 0 (take n xs) (λ j low. ap (at xs) (let e : 0 + j ≡ j = omega arith in e) ∙ sym (get_or-take n xs j nowhere (omega (arith, low, size)))) ∙ ap (items there (at xs) 0) size
 
 -- what was fed, by other words for the items
-fed_as : (xs ys : List (Option Datagram)) (r : Receiver) → xs ≡ ys → r.precincts ≡ (fed at_start xs).precincts → r.decoder ≡ (fed at_start xs).decoder → HasFed ys r
-fed_as xs ys r e p d = record { precincts = p ∙ ap (λ l. (fed at_start l).precincts) e; decoder = d ∙ ap (λ l. (fed at_start l).decoder) e }
+fed_as : (xs ys : List (Option Datagram)) (r : Receiver) → xs ≡ ys → r.releases ≡ (fed at_start xs).releases → r.decoder ≡ (fed at_start xs).decoder → HasFed ys r
+fed_as xs ys r e p d = record { releases = p ∙ ap (λ l. (fed at_start l).releases) e; decoder = d ∙ ap (λ l. (fed at_start l).decoder) e }
 
 -- each position below the base was handed on, and at the end each up to the highest arrival
 handed_by : (number : ℕ) (xs : List Datagram) (window : ℕ) (events : List ℕ) (r : Receiver) → 1 ≤ window → length xs < 8388608 → 1 ≤ length events → Known number (at xs) (length xs) window events r
@@ -229,8 +242,8 @@ handed_by number xs window (x ∷ more) r some few any (h, k) =
       | inr u ↦ let yes = highest_in_time x more window some in let late = e.none (highest_arrival events) u in absurd (cc)
     ] in
     let same : e.q ≡ top = omega arith in (
-      fed_as (items t (at xs) 0 (base events window)) (handed t 0 (take (base events window) xs)) r (sym (front_items t xs (base events window) h.within)) h.precincts h.decoder,
-      fed_as (items t (at xs) 0 e.q) (handed t 0 (take top xs)) (flushed r) (ap (items t (at xs) 0) same ∙ sym (front_items t xs top (omega (arith, same, e.within)))) e.precincts e.decoder,
+      fed_as (items t (at xs) 0 (base events window)) (handed t 0 (take (base events window) xs)) r (sym (front_items t xs (base events window) h.within)) h.releases h.decoder,
+      fed_as (items t (at xs) 0 e.q) (handed t 0 (take top xs)) (flushed r) (ap (items t (at xs) 0) same ∙ sym (front_items t xs top (omega (arith, same, e.within)))) e.releases e.decoder,
     )
 
 -- so the window hands on in order

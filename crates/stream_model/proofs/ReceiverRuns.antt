@@ -23,12 +23,12 @@ use Rattle.stream_model.proofs.ArrivalSteps.{not_arrived, alone, base_is, one_mo
 use Rattle.stream_model.proofs.ReceiverSteps.{Holding, holding_as, HasCounts, keep_holding, due_holding, Stepped, step_on}
 
 -- gaps give nothing, and leave the decoder at its start
-gaps_nothing : (there : ℕ → Bool) (dg : ℕ → Datagram) (p n : ℕ) → ((i : ℕ) → there i ≡ false) → fed at_start (items there dg p n) ≡ record { precincts = []; decoder = at_start }
+gaps_nothing : (there : ℕ → Bool) (dg : ℕ → Datagram) (p n : ℕ) → ((i : ℕ) → there i ≡ false) → fed at_start (items there dg p n) ≡ record { releases = []; decoder = at_start }
 gaps_nothing there dg p zero none = refl
 gaps_nothing there dg p (suc n) none = ap (λ b. fed at_start ((if b then Some (dg p) else None) ∷ items there dg (p + 1) n)) (none p) ∙ gaps_nothing there dg (p + 1) n none
 
 -- the first arrival
-step_first : (number : ℕ) (dg : ℕ → Datagram) (end window a : ℕ) (r : Receiver) → r.window ≡ empty → r.decoder ≡ at_start → r.precincts ≡ [] → r.kept ≡ 0 → 1 ≤ window → end < 8388608 → a < end → extended_number (dg a) ≡ num number a
+step_first : (number : ℕ) (dg : ℕ → Datagram) (end window a : ℕ) (r : Receiver) → r.window ≡ empty → r.decoder ≡ at_start → r.releases ≡ [] → r.kept ≡ 0 → 1 ≤ window → end < 8388608 → a < end → extended_number (dg a) ≡ num number a
     → Stepped number dg end window (a ∷ []) r (offered r (dg a) (offer window (extended_number (dg a)) r.window r.window.base))
 step_first number dg end window a r w d p k some few inside is_number =
     let n = extended_number (dg a) in
@@ -44,7 +44,7 @@ step_first number dg end window a r w d p k some few inside is_number =
       within = omega arith;
       same = λ i low. refl;
       decoder = d ∙ sym (ap (λ (s : Settled). s.decoder) gaps);
-      precincts = p ∙ sym (ap (λ (s : Settled). s.precincts) gaps);
+      releases = p ∙ sym (ap (λ (s : Settled). s.releases) gaps);
     } in
     let elsewhere : (i : ℕ) → (a ≡ i → ⊥) → now i ≡ was i = λ i m. not_arrived (a ∷ []) i window (let e : (a == i) ≡ false = elim (eqb_tells a i) [ inl t ↦ absurd (m t.1) | inr t ↦ t.0 ] in rw e refl) in
     let t = keep_holding number dg end a a was now other h few inside (omega arith) is_number (alone a window) elsewhere in
@@ -60,11 +60,11 @@ step_first number dg end window a r w d p k some few inside is_number =
 
 -- what is known after arrivals
 abbrev pub Known : ℕ → (ℕ → Datagram) → ℕ → ℕ → List ℕ → Receiver → Type 0
-Known number dg end window [] r = (r.window ≡ empty) × (r.decoder ≡ at_start) × (r.precincts ≡ []) × (r.kept ≡ 0)
+Known number dg end window [] r = (r.window ≡ empty) × (r.decoder ≡ at_start) × (r.releases ≡ []) × (r.kept ≡ 0)
 Known number dg end window (x ∷ xs) r = Holding number dg end (base (x ∷ xs) window) (λ i. in_time (x ∷ xs) i window) r × (r.kept ≡ length (positions_in_time (x ∷ xs) window))
 
 -- what is known goes by the window, the decoder, the precincts and the count
-known_as : (number : ℕ) (dg : ℕ → Datagram) (end window : ℕ) (events : List ℕ) (r s : Receiver) → s.window ≡ r.window → s.decoder ≡ r.decoder → s.precincts ≡ r.precincts → s.kept ≡ r.kept → Known number dg end window events r → Known number dg end window events s
+known_as : (number : ℕ) (dg : ℕ → Datagram) (end window : ℕ) (events : List ℕ) (r s : Receiver) → s.window ≡ r.window → s.decoder ≡ r.decoder → s.releases ≡ r.releases → s.kept ≡ r.kept → Known number dg end window events r → Known number dg end window events s
 known_as number dg end window [] r s w d p k t = (w ∙ t.0, d ∙ t.1, p ∙ t.2, k ∙ t.3)
 known_as number dg end window (x ∷ xs) r s w d p k t =
     (holding_as number dg end (base (x ∷ xs) window) (base (x ∷ xs) window) (λ i. in_time (x ∷ xs) i window) (λ i. in_time (x ∷ xs) i window) r s refl (λ i. refl) w d p t.0, k ∙ t.1)
@@ -258,14 +258,14 @@ due_is b m (j ∷ hs) = elim (due_is b (max m (j - b + 1)) hs) [
   ]
 ]
 
--- what is known at the end: the decoder was fed all positions up to one behind which nothing is there
+-- what is known at the end: the decoder was fed all positions up to one after which nothing is there
 pub record AtEnd (dg : ℕ → Datagram) (end b : ℕ) (there : ℕ → Bool) (r s : Receiver) : Type 0 where
   pub q : ℕ
   pub within : q ≤ end
   pub none : (i : ℕ) → q ≤ i → there i ≡ false
   pub least : (top : ℕ) → b ≤ top → ((i : ℕ) → top ≤ i → there i ≡ false) → q ≤ top
   pub decoder : s.decoder ≡ (fed at_start (items there dg 0 q)).decoder
-  pub precincts : s.precincts ≡ (fed at_start (items there dg 0 q)).precincts
+  pub releases : s.releases ≡ (fed at_start (items there dg 0 q)).releases
   pub counts : HasCounts r.kept r s
 
 -- the flush
@@ -297,7 +297,7 @@ flush_known number dg end b there r h few =
         ]
       ];
       decoder = d.4.decoder;
-      precincts = d.4.precincts;
+      releases = d.4.releases;
       counts = d.5;
     }
 

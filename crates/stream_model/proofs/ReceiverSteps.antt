@@ -29,10 +29,10 @@ pub record Holding (number : ℕ) (dg : ℕ → Datagram) (end b : ℕ) (there :
   pub within : b ≤ end
   pub same : (i : ℕ) → b ≤ i → mem hs i ≡ there i
   pub decoder : r.decoder ≡ (fed at_start (items there dg 0 b)).decoder
-  pub precincts : r.precincts ≡ (fed at_start (items there dg 0 b)).precincts
+  pub releases : r.releases ≡ (fed at_start (items there dg 0 b)).releases
 
 -- the same of other words for the same
-pub holding_as : (number : ℕ) (dg : ℕ → Datagram) (end b c : ℕ) (t u : ℕ → Bool) (r s : Receiver) → b ≡ c → ((i : ℕ) → t i ≡ u i) → s.window ≡ r.window → s.decoder ≡ r.decoder → s.precincts ≡ r.precincts → Holding number dg end b t r → Holding number dg end c u s
+pub holding_as : (number : ℕ) (dg : ℕ → Datagram) (end b c : ℕ) (t u : ℕ → Bool) (r s : Receiver) → b ≡ c → ((i : ℕ) → t i ≡ u i) → s.window ≡ r.window → s.decoder ≡ r.decoder → s.releases ≡ r.releases → Holding number dg end b t r → Holding number dg end c u s
 holding_as number dg end b c t u r s e same w d p h =
     let f : items t dg 0 b ≡ items u dg 0 c = items_same t u dg 0 b (λ i low high. same i) ∙ ap (items u dg 0) e in
     let P : ℕ → Type 0 = λ k. AllByRecursion (λ i. (k ≤ i) × (i < end)) h.hs in
@@ -43,18 +43,18 @@ holding_as number dg end b c t u r s e same w d p h =
       within = omega (arith, e, h.within);
       same = λ i low. h.same i (omega (arith, e, low)) ∙ same i;
       decoder = d ∙ (h.decoder ∙ ap (λ l. (fed at_start l).decoder) f);
-      precincts = p ∙ (h.precincts ∙ ap (λ l. (fed at_start l).precincts) f);
+      releases = p ∙ (h.releases ∙ ap (λ l. (fed at_start l).releases) f);
     }
 
 -- what was fed on after what was fed
-pub fed_further : (there : ℕ → Bool) (dg : ℕ → Datagram) (b q : ℕ) → b ≤ q → fed at_start (items there dg 0 q) ≡ given_before (fed at_start (items there dg 0 b)).precincts (fed (fed at_start (items there dg 0 b)).decoder (items there dg b (q - b)))
+pub fed_further : (there : ℕ → Bool) (dg : ℕ → Datagram) (b q : ℕ) → b ≤ q → fed at_start (items there dg 0 q) ≡ given_before (fed at_start (items there dg 0 b)).releases (fed (fed at_start (items there dg 0 b)).decoder (items there dg b (q - b)))
 fed_further there dg b q low =
     let e : q ≡ b + (q - b) = omega arith in
     let z : 0 + b ≡ b = omega arith in
     ap (fed at_start) (ap (items there dg 0) e ∙ (items-append there dg 0 b (q - b) ∙ ap (λ k. items there dg 0 b ++ items there dg k (q - b)) z))
     ∙ fed-append at_start (items there dg 0 b) (items there dg b (q - b))
 
--- so many are kept by now, and what else was counted, and the source, are as before
+-- these counts are kept by now, and what else was counted, and the source, are as before
 abbrev pub HasCounts : ℕ → Receiver → Receiver → Type 0
 HasCounts kept r s = (s.kept ≡ kept) × (s.refused ≡ r.refused) × (s.source ≡ r.source)
 
@@ -80,7 +80,7 @@ keep_holding number dg end b a was now r h few inside low is_number here other =
     let before : items was dg 0 b ≡ items now dg 0 b = items_same was now dg 0 b (λ i l m. sym (other i (λ e. omega (arith, e, m, low)))) in
     let all = fed_further now dg b q up in
     let d : r.decoder ≡ (fed at_start (items now dg 0 b)).decoder = h.decoder ∙ ap (λ l. (fed at_start l).decoder) before in
-    let p : r.precincts ≡ (fed at_start (items now dg 0 b)).precincts = h.precincts ∙ ap (λ l. (fed at_start l).precincts) before in
+    let p : r.releases ≡ (fed at_start (items now dg 0 b)).releases = h.releases ∙ ap (λ l. (fed at_start l).releases) before in
     let is : keep r (dg a) ≡ fed_on (record start { window = window_at number dg q 0 ran.left }) (items now dg b (q - b)) = ran.is ∙ ap (fed_on (record start { window = window_at number dg q 0 ran.left })) list in (
       q,
       up,
@@ -93,15 +93,15 @@ keep_holding number dg end b a was now r h few inside low is_number here other =
         within = ran.high;
         same = λ i l. ran.same i l ∙ mine i (omega arith);
         decoder = ap (λ (x : Receiver). x.decoder) is ∙ (ap (λ y. (fed y (items now dg b (q - b))).decoder) d ∙ sym (ap (λ (s : Settled). s.decoder) all));
-        precincts = ap (λ (x : Receiver). x.precincts) is
-            ∙ (ap (λ l. l ++ (fed r.decoder (items now dg b (q - b))).precincts) p
-            ∙ (ap (λ y. (fed at_start (items now dg 0 b)).precincts ++ (fed y (items now dg b (q - b))).precincts) d ∙ sym (ap (λ (s : Settled). s.precincts) all)));
+        releases = ap (λ (x : Receiver). x.releases) is
+            ∙ (ap (λ l. l ++ (fed r.decoder (items now dg b (q - b))).releases) p
+            ∙ (ap (λ y. (fed at_start (items now dg 0 b)).releases ++ (fed y (items now dg b (q - b))).releases) d ∙ sym (ap (λ (s : Settled). s.releases) all)));
       },
       (ap (λ (x : Receiver). x.kept) is, ap (λ (x : Receiver). x.refused) is, ap (λ (x : Receiver). x.source) is),
     )
 
 -- what is made due is handed on
-pub due_holding : (number : ℕ) (dg : ℕ → Datagram) (end b u : ℕ) (there : ℕ → Bool) (r s : Receiver) (h : Holding number dg end b there r) → end < 8388608 → b + u ≤ end → s.window ≡ window_at number dg b u h.hs → s.decoder ≡ r.decoder → s.precincts ≡ r.precincts
+pub due_holding : (number : ℕ) (dg : ℕ → Datagram) (end b u : ℕ) (there : ℕ → Bool) (r s : Receiver) (h : Holding number dg end b there r) → end < 8388608 → b + u ≤ end → s.window ≡ window_at number dg b u h.hs → s.decoder ≡ r.decoder → s.releases ≡ r.releases
     → (q : ℕ) × (b + u ≤ q) × (there q ≡ false) × ((i : ℕ) → b + u ≤ i → i < q → there i ≡ true) × Holding number dg end q there (drain s) × HasCounts s.kept s (drain s)
 due_holding number dg end b u there r s h few room w dec pre =
     let n = 2 * length s.window.held + 1 in
@@ -112,7 +112,7 @@ due_holding number dg end b u there r s h few room w dec pre =
     let list : items (mem h.hs) dg b (q - b) ≡ items there dg b (q - b) = items_same (mem h.hs) there dg b (q - b) (λ i l m. h.same i l) in
     let all = fed_further there dg b q up in
     let d = dec ∙ h.decoder in
-    let p = pre ∙ h.precincts in
+    let p = pre ∙ h.releases in
     let is : drain s ≡ fed_on (record s { window = window_at number dg q 0 ran.left }) (items there dg b (q - b)) = ran.is ∙ ap (fed_on (record s { window = window_at number dg q 0 ran.left })) list in (
       q,
       ran.low,
@@ -125,9 +125,9 @@ due_holding number dg end b u there r s h few room w dec pre =
         within = ran.high;
         same = λ i l. ran.same i l ∙ h.same i (omega arith);
         decoder = ap (λ (x : Receiver). x.decoder) is ∙ (ap (λ y. (fed y (items there dg b (q - b))).decoder) d ∙ sym (ap (λ (y : Settled). y.decoder) all));
-        precincts = ap (λ (x : Receiver). x.precincts) is
-            ∙ (ap (λ l. l ++ (fed s.decoder (items there dg b (q - b))).precincts) p
-            ∙ (ap (λ y. (fed at_start (items there dg 0 b)).precincts ++ (fed y (items there dg b (q - b))).precincts) d ∙ sym (ap (λ (y : Settled). y.precincts) all)));
+        releases = ap (λ (x : Receiver). x.releases) is
+            ∙ (ap (λ l. l ++ (fed s.decoder (items there dg b (q - b))).releases) p
+            ∙ (ap (λ y. (fed at_start (items there dg 0 b)).releases ++ (fed y (items there dg b (q - b))).releases) d ∙ sym (ap (λ (y : Settled). y.releases) all)));
       },
       (ap (λ (x : Receiver). x.kept) is, ap (λ (x : Receiver). x.refused) is, ap (λ (x : Receiver). x.source) is),
     )
@@ -138,7 +138,7 @@ held_mem number dg a [] low small = refl
 held_mem number dg a (i ∷ hs) low small =
     ap (λ b. b || is_held (num number a) (map (held_at number dg) hs)) (num_test number i a small.0 low) ∙ ap (λ b. (i == a) || b) (held_mem number dg a hs low small.1)
 
--- what the window answers to a position: behind it,
+-- what the window answers to a position: after it,
 offer_behind : (number : ℕ) (dg : ℕ → Datagram) (window b a : ℕ) (hs : List ℕ) → a < b → b < 8388608 → offer window (num number a) (window_at number dg b 0 hs) (Some (num number b)) ≡ Behind
 offer_behind number dg window b a hs less few =
     let far = ahead_behind number b a less few in

@@ -5,6 +5,7 @@ use Rattle.std.specs.List.{AllByRecursion, flat_map}
 use Rattle.std.proofs.lemmas.List.Elements.{filter-append}
 use Rattle.std.proofs.lemmas.List.{append-nil}
 use Rattle.std.proofs.lemmas.Grind.{flat_map-append}
+use Rattle.std.proofs.lemmas.List.{map-append}
 use Rattle.wire_model.specs.Bytes.{IsBytes}
 use Rattle.wire_model.specs.Framing.{framing, Splits, whole_frames}
 use Rattle.wire_model.proofs.FramingLaws.{frames_are_computed, bytes_split, framing-append, framed-append}
@@ -13,10 +14,11 @@ use Rattle.codestream_model.proofs.BytesLemmas.{bytes_front}
 use Rattle.codestream_model.proofs.CodestreamsJudged.{bytes_back}
 use Rattle.stream_model.specs.Stream.{carried}
 use Rattle.stream_model.specs.Arrivals.{picked, picked_source, is_of_kind, source_of, datagram_at}
+use Rattle.stream_model.specs.Decoder.{Release, precincts_released}
 use Rattle.stream_model.specs.Report.{Precinct, lines, precinct_line, block_lines, end_line}
 use Rattle.stream_model.specs.Receiver.{Pick, Receiver, new_receiver, take_frame, take_frames, received, flushed, counts_of}
 use Rattle.stream_model.specs.ReceiverJoins.{forgetful}
-use Rattle.stream_model.specs.Commands.{counted, report_lines}
+use Rattle.stream_model.specs.Commands.{counted, release_lines, report_lines}
 use Rattle.stream_model.specs.StreamLaws.{said_by}
 use Rattle.stream_model.specs.Reached.{due_at_end}
 use Rattle.stream_model.specs.ReportLaws.{ReportWritesWhatIsDue, ArriveFront, ReceivedGrows, ReportGrows}
@@ -38,8 +40,8 @@ pub report_writes_what_is_due : ReportWritesWhatIsDue
 report_writes_what_is_due sent codestreams datagrams frames events pick read rest c some s few a =
     let law = gives_what_is_due sent codestreams datagrams frames events pick c some a in
     let f = frames_read read rest frames s few in (
-      ap (λ fs. lines (received pick fs).precincts) f ∙ ap lines law.0,
-      ap (λ fs. lines (flushed (received pick fs)).precincts ++ end_line (counts_of (flushed (received pick fs)))) f
+      ap (λ fs. release_lines (received pick fs).releases) f ∙ ap lines law.0,
+      ap (λ fs. release_lines (flushed (received pick fs)).releases ++ end_line (counts_of (flushed (received pick fs)))) f
           ∙ (ap (λ xs. lines xs ++ end_line (counts_of (flushed (received pick frames)))) law.1
           ∙ ap (λ n. lines (flat_map (said_by sent) (due_at_end events pick.window (carried sent))) ++ end_line n) law.2),
     )
@@ -96,19 +98,19 @@ received_grows pick frames frame = (
   counted-frames pick (new_receiver pick) (frames ++ frame ∷ []) ∙ (let n = length-append frames (frame ∷ []) in omega (arith, n)),
 )
 
-frames_give : (pick : Pick) (r : Receiver) (xs : List (List ℕ)) → (later : List Precinct) × ((take_frames pick r xs).precincts ≡ r.precincts ++ later)
+frames_give : (pick : Pick) (r : Receiver) (xs : List (List ℕ)) → (later : List Release) × ((take_frames pick r xs).releases ≡ r.releases ++ later)
 unfolding take_frames
-frames_give pick r [] = ([], sym (append-nil r.precincts))
+frames_give pick r [] = ([], sym (append-nil r.releases))
 frames_give pick r (x ∷ xs) =
     let one = (precincts_join pick r).0 x in
     let (later, e) = frames_give pick (take_frame pick r x) xs in
-    let new = (take_frame pick (forgetful r) x).precincts in
-    (new ++ later, e ∙ (ap (λ (s : Receiver). s.precincts ++ later) one ∙ append_assoc r.precincts new later))
+    let new = (take_frame pick (forgetful r) x).releases in
+    (new ++ later, e ∙ (ap (λ (s : Receiver). s.releases ++ later) one ∙ append_assoc r.releases new later))
 
-received_more : (pick : Pick) (xs ys : List (List ℕ)) → (later : List Precinct) × ((received pick (xs ++ ys)).precincts ≡ (received pick xs).precincts ++ later)
+received_more : (pick : Pick) (xs ys : List (List ℕ)) → (later : List Release) × ((received pick (xs ++ ys)).releases ≡ (received pick xs).releases ++ later)
 received_more pick xs ys =
     let (later, e) = frames_give pick (received pick xs) ys in
-    (later, ap (λ (s : Receiver). s.precincts) (take_frames-append pick (new_receiver pick) xs ys) ∙ e)
+    (later, ap (λ (s : Receiver). s.releases) (take_frames-append pick (new_receiver pick) xs ys) ∙ e)
 
 -- bytes in two parts
 take_two : (n : ℕ) (xs ys : List ℕ) → take n (xs ++ ys) ≡ take n xs ++ take (n - length xs) ys
@@ -139,6 +141,10 @@ frames_more read more fits =
 lines-append : (xs ys : List Precinct) → lines (xs ++ ys) ≡ lines xs ++ lines ys
 lines-append xs ys = flat_map-append (λ x. precinct_line x ++ block_lines x.blocks x.bytes) xs ys
 
+-- the lines of packets and then of others
+pub released_lines : (xs ys : List Release) → release_lines (xs ++ ys) ≡ release_lines xs ++ release_lines ys
+released_lines xs ys = ap lines (map-append (λ (x : Release). x.precinct) xs ys) ∙ lines-append (precincts_released xs) (precincts_released ys)
+
 more_written : (pick : Pick) (read more : List ℕ) → IsBytes (read ++ more) → (later : List ℕ) × (report_lines pick (read ++ more) false ≡ report_lines pick read false ++ later)
 more_written pick read more fits =
     let n : ℕ = 1099511627776 in
@@ -146,15 +152,15 @@ more_written pick read more fits =
     let fit : IsBytes (take n read ++ take (n - length read) more) = (let B : List ℕ → Type 0 = λ l. IsBytes l in subst B two (bytes-take n (read ++ more) fits)) in
     let (frames, e) = frames_more (take n read) (take (n - length read) more) fit in
     let (later, f) = received_more pick (whole_frames (take n read)) frames in
-    (lines later, ap (λ l. lines (received pick (whole_frames l)).precincts) two ∙ (ap (λ fs. lines (received pick fs).precincts) e ∙ (ap lines f ∙ lines-append (received pick (whole_frames (take n read))).precincts later)))
+    (release_lines later, ap (λ l. release_lines (received pick (whole_frames l)).releases) two ∙ (ap (λ fs. release_lines (received pick fs).releases) e ∙ (ap release_lines f ∙ released_lines (received pick (whole_frames (take n read))).releases later)))
 
 end_written : (pick : Pick) (read : List ℕ) → (later : List ℕ) × (report_lines pick read true ≡ report_lines pick read false ++ later)
 end_written pick read =
     let r = received pick (whole_frames (counted read)) in
     let end = end_line (counts_of (flushed r)) in
-    let new = (flushed (forgetful r)).precincts in
-    let e : (flushed r).precincts ≡ r.precincts ++ new = ap (λ (s : Receiver). s.precincts) (precincts_join pick r).1 in
-    (lines new ++ end, ap (λ xs. lines xs ++ end) e ∙ (ap (λ l. l ++ end) (lines-append r.precincts new) ∙ append_assoc (lines r.precincts) (lines new) end))
+    let new = (flushed (forgetful r)).releases in
+    let e : (flushed r).releases ≡ r.releases ++ new = ap (λ (s : Receiver). s.releases) (precincts_join pick r).1 in
+    (release_lines new ++ end, ap (λ xs. release_lines xs ++ end) e ∙ (ap (λ l. l ++ end) (released_lines r.releases new) ∙ append_assoc (release_lines r.releases) (release_lines new) end))
 
 pub report_grows : ReportGrows
 report_grows pick read more = (λ fits. more_written pick read more fits, end_written pick read)

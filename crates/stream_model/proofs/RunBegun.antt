@@ -14,15 +14,14 @@ use Rattle.codestream_model.proofs.OneWayLemmas.{same_front}
 use Rattle.stream_model.specs.Stream.{Parts, ArePackets, ArePartsOf, Sent, Mark, mark_of, marks, packet_start, precinct_at, carried_at}
 use Rattle.stream_model.specs.Decoder.{Current, Decoder, Settled, from_place, settle, settled}
 use Rattle.stream_model.specs.Receiver.{decoded}
-use Rattle.stream_model.specs.CommandLaws.{precincts_of}
-use Rattle.stream_model.specs.RunLaws.{passing}
+use Rattle.stream_model.specs.RunLaws.{passing, current_of, releases_of}
 use Rattle.stream_model.proofs.CutPayloads.{joined-append}
 use Rattle.stream_model.proofs.Found.{packet_has_bytes}
 use Rattle.stream_model.proofs.RunRules.{state, IsUnfinished, Went, settle_changes, goes_on}
 use Rattle.stream_model.proofs.RunMarks.{mark_at, run_from, stands_once}
-use Rattle.stream_model.proofs.RunPlaces.{Here, next_here, gone_between, start_among, starts_up, Ahead, mark_ahead}
-use Rattle.stream_model.proofs.RunReach.{point, passing_all, passing_none, precincts-length}
-use Rattle.stream_model.proofs.RunStates.{marks_from, current_of, test, Dead, Alive, At, none_reached}
+use Rattle.stream_model.proofs.RunPlaces.{as_many, Here, next_here, gone_between, start_among, starts_up, Ahead, mark_ahead}
+use Rattle.stream_model.proofs.RunReach.{point, passing_all, passing_none, releases-length}
+use Rattle.stream_model.proofs.RunStates.{marks_from, test, Dead, Alive, At, none_reached}
 use Rattle.stream_model.proofs.RunHanded.{joined_marked, one_own, own_mark, own_right, reached_here, dead_on}
 use Rattle.stream_model.proofs.RunSteps.{next_at, tail_of, split_passes, as_said, many_done, the_next}
 
@@ -87,7 +86,7 @@ at_the_mark c at ps xs bs got payload todo h cur m pos f within r =
       refl,
     )
 
--- the packets that haven't ended end behind the start of the Body
+-- the packets that haven't ended end after the start of the Body
 pub unfinished_start : (c : Parts) (at : ℕ) (ps : List Place) (xs : List Content) (bs : List (List ℕ)) (got todo : List ℕ) (h : Here c at ps xs bs got todo) → 1 ≤ length bs → (j : ℕ) → length h.done ≤ j → at < packet_start c (j + 1)
 unfinished_start c at ps xs [] got todo h some j low = absurd (omega arith)
 unfinished_start c at ps xs (b ∷ bs) got todo h some j low =
@@ -167,11 +166,12 @@ step_begin d0 s main there i at x rest ps xs bs got d a codestream parts g e sta
     (let b = gone_between c (at + g.pos) (f.p ∷ f.after) r.more r.rest [] bytes (bytes ++ todo) mid.0 d0 cur q refl w j (omega (arith, before, low)) (omega (arith, before, high)) in
     reached_here d0 s main there i at x rest ps xs bs got d a (k + length f.ahead) j main_there (alive (k + length f.ahead) (omega arith)) low (omega (arith, b.0)) (omega (arith, b.1, cut, marked))) in
     let same = as_said c.head w.gone w.said w.whole w.are_gone in
+    let many = as_many c.head w.gone w.said w.whole w.are_gone in
     let T = test there main s in
-    let first = split_passes T k c.head s.stamp ps f.ahead (f.p ∷ f.after) xs r.said r.more f.places r.content r.sizes in
-    let second = split_passes T (k + length f.ahead) c.head s.stamp (f.p ∷ f.after) w.gone w.left r.more w.said w.more w.places w.content same in
-    let none = passing_none T k (precincts_of c.head s.stamp f.ahead r.said) (λ j low high. missed j low (omega (arith, high, precincts-length c.head s.stamp f.ahead r.said r.sizes))) in
-    let every = passing_all T (k + length f.ahead) (precincts_of c.head s.stamp w.gone w.said) (λ j low high. met j low (omega (arith, high, precincts-length c.head s.stamp w.gone w.said same))) in
+    let first = split_passes T k cur d0.heads ps f.ahead (f.p ∷ f.after) xs r.said r.more bs r.whole r.rest f.places r.content r.packets r.sizes r.size in
+    let second = split_passes T (k + length f.ahead) cur d0.heads (f.p ∷ f.after) w.gone w.left r.more w.said w.more r.rest w.whole w.rest w.places w.content w.packets same many in
+    let none = passing_none T k (releases_of cur d0.heads f.ahead r.said r.whole) (λ j low high. missed j low (omega (arith, high, releases-length cur d0.heads f.ahead r.said r.whole r.sizes r.size))) in
+    let every = passing_all T (k + length f.ahead) (releases_of cur d0.heads w.gone w.said w.whole) (λ j low high. met j low (omega (arith, high, releases-length cur d0.heads w.gone w.said w.whole same many))) in
     let sum : k + length f.ahead + length w.gone ≡ k + gone = omega arith in
     record {
       left = w.left;
@@ -179,12 +179,12 @@ step_begin d0 s main there i at x rest ps xs bs got d a codestream parts g e sta
       packets = w.rest;
       kept = w.kept;
       decoder = q.decoder;
-      given = q.precincts;
+      given = q.releases;
       gone = gone;
       known = known.0;
       count = ap length known.1 ∙ moved.1;
-      passes = first ∙ (ap (λ l. l ++ passing T (k + length f.ahead) (precincts_of c.head s.stamp (f.p ∷ f.after) r.more)) none
-          ∙ (second ∙ (ap (λ l. l ++ passing T (k + length f.ahead + length w.gone) (precincts_of c.head s.stamp w.left w.more)) (every ∙ sym (ap (λ (y : Settled). y.precincts) w.is))
-          ∙ ap (λ z. q.precincts ++ passing T z (precincts_of c.head s.stamp w.left w.more)) sum)));
+      passes = first ∙ (ap (λ l. l ++ passing T (k + length f.ahead) (releases_of cur d0.heads (f.p ∷ f.after) r.more r.rest)) none
+          ∙ (second ∙ (ap (λ l. l ++ passing T (k + length f.ahead + length w.gone) (releases_of cur d0.heads w.left w.more w.rest)) (every ∙ sym (ap (λ (y : Settled). y.releases) w.is))
+          ∙ ap (λ z. q.releases ++ passing T z (releases_of cur d0.heads w.left w.more w.rest)) sum)));
       feeds = λ items. refl;
     }

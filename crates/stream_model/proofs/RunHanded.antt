@@ -12,14 +12,13 @@ use Rattle.stream_model.specs.Stream.{Parts, ArePackets, ArePartsOf, Sent, Mark,
 use Rattle.stream_model.specs.Reached.{ResyncPoint}
 use Rattle.stream_model.specs.Decoder.{Current, Decoder, Settled, run_of, place_of, settle, settled}
 use Rattle.stream_model.specs.Receiver.{decoded}
-use Rattle.stream_model.specs.CommandLaws.{precincts_of}
-use Rattle.stream_model.specs.RunLaws.{passing}
+use Rattle.stream_model.specs.RunLaws.{passing, current_of, releases_of}
 use Rattle.stream_model.proofs.CutBodies.{all_imply}
 use Rattle.stream_model.proofs.RunRules.{state, Went, settle_waits, goes_on}
 use Rattle.stream_model.proofs.RunMarks.{mark_at, goes_past}
-use Rattle.stream_model.proofs.RunPlaces.{next_here, gone_between, mark_ahead}
-use Rattle.stream_model.proofs.RunReach.{reach_true, point, passing_all, passing_none, precincts-length}
-use Rattle.stream_model.proofs.RunStates.{marks_from, current_of, test, Lost, Dead, Alive, At, last_is, none_reached}
+use Rattle.stream_model.proofs.RunPlaces.{as_many, next_here, gone_between, mark_ahead}
+use Rattle.stream_model.proofs.RunReach.{reach_true, point, passing_all, passing_none, releases-length}
+use Rattle.stream_model.proofs.RunStates.{marks_from, test, Lost, Dead, Alive, At, last_is, none_reached}
 use Rattle.stream_model.proofs.RunSteps.{next_at, tail_of, split_passes, as_said, few_gone, many_done, the_next}
 
 -- the bytes of a Body join those that are there,
@@ -78,19 +77,20 @@ run_next d0 s main there i at x rest ps xs bs got d a main_there here alive w =
     (let b = gone_between c at ps xs bs got x.codestream (x.codestream ++ todo) a.here d0 cur r refl w j low high in
     reached_here d0 s main there i at x rest ps xs bs got d a k j main_there (on k (omega arith)) low b.0 b.1) in
     let same = as_said c.head w.gone w.said w.whole w.are_gone in
-    let passes = split_passes (test there main s) k c.head s.stamp ps w.gone w.left xs w.said w.more w.places w.content same in
-    let all = passing_all (test there main s) k (precincts_of c.head s.stamp w.gone w.said) (λ j low high. met j low (omega (arith, high, precincts-length c.head s.stamp w.gone w.said same))) in
+    let many = as_many c.head w.gone w.said w.whole w.are_gone in
+    let passes = split_passes (test there main s) k cur d0.heads ps w.gone w.left xs w.said w.more bs w.whole w.rest w.places w.content w.packets same many in
+    let all = passing_all (test there main s) k (releases_of cur d0.heads w.gone w.said w.whole) (λ j low high. met j low (omega (arith, high, releases-length cur d0.heads w.gone w.said w.whole same many))) in
     record {
       left = w.left;
       more = w.more;
       packets = w.rest;
       kept = w.kept;
       decoder = r.decoder;
-      given = r.precincts;
+      given = r.releases;
       gone = length w.gone;
       known = known.0;
       count = ap length known.1 ∙ size;
-      passes = passes ∙ ap (λ l. l ++ passing (test there main s) (k + length w.gone) (precincts_of c.head s.stamp w.left w.more)) (all ∙ sym (ap (λ (q : Settled). q.precincts) w.is));
+      passes = passes ∙ ap (λ l. l ++ passing (test there main s) (k + length w.gone) (releases_of cur d0.heads w.left w.more w.rest)) (all ∙ sym (ap (λ (q : Settled). q.releases) w.is));
       feeds = λ items. refl;
     }
 
@@ -123,7 +123,7 @@ run_went d0 s main there i at x rest ps xs bs got d a codestream parts g e stamp
     ]
 
 -- without a run the bytes of a Body that has no mark are dropped
-idle_waits : (n : ℕ) (d0 : Decoder) (c : Current) (bytes : List ℕ) → 1 ≤ n → settle n (state d0 c None bytes None) ≡ record { precincts = []; decoder = state d0 c None [] None }
+idle_waits : (n : ℕ) (d0 : Decoder) (c : Current) (bytes : List ℕ) → 1 ≤ n → settle n (state d0 c None bytes None) ≡ record { releases = []; decoder = state d0 c None [] None }
 idle_waits zero d0 c bytes some = absurd (omega arith)
 idle_waits (suc n) d0 c bytes some = settle_waits n (state d0 c None bytes None) (state d0 c None [] None) refl
 
@@ -156,7 +156,7 @@ step_idle d0 s main there i at x rest ps xs bs got d a codestream parts g e stam
     let now = dead_on there main s i a.earlier dead in
     let D : List Mark → Type 0 = λ l. Dead there main s (main + 1 + (i + 1)) l in
     let after : Dead there main s (main + 1 + (i + 1)) (a.earlier ++ mine) = subst D (sym (ap (λ l. a.earlier ++ l) none ∙ append-nil a.earlier)) now in
-    let all : settled (decoded d x x.payload) ≡ record { precincts = []; decoder = state d0 cur None [] None } =
+    let all : settled (decoded d x x.payload) ≡ record { releases = []; decoder = state d0 cur None [] None } =
     ap settled (ap (λ y. decoded y x x.payload) is ∙ (ap (decoded (state d0 cur None [] None) x) e ∙ joined_plain d0 s None [] x g stamp o)) ∙ idle_waits (length x.codestream + 5) d0 cur x.codestream (omega arith) in
     let q = settled (decoded d x x.payload) in
     let known = next_at d0 s main there i at x rest ps xs bs got d a w.left w.more w.rest w.kept h.0 q.decoder (inr (after, ap (λ (y : Settled). y.decoder) all)) in
@@ -165,18 +165,19 @@ step_idle d0 s main there i at x rest ps xs bs got d a codestream parts g e stam
     (let b = gone_between c at ps xs bs got x.codestream (x.codestream ++ todo) a.here d0 cur r refl w j low high in
     none_reached d0 s main there i at x rest ps xs bs got d a codestream parts j now (omega (arith, few_gone c at ps xs bs got (x.codestream ++ todo) (got ++ x.codestream) a.here d0 cur r refl w, high)) b.0 b.1 (own j)) in
     let same = as_said c.head w.gone w.said w.whole w.are_gone in
-    let passes = split_passes (test there main s) k c.head s.stamp ps w.gone w.left xs w.said w.more w.places w.content same in
-    let empty = passing_none (test there main s) k (precincts_of c.head s.stamp w.gone w.said) (λ j low high. missed j low (omega (arith, high, precincts-length c.head s.stamp w.gone w.said same))) in
+    let many = as_many c.head w.gone w.said w.whole w.are_gone in
+    let passes = split_passes (test there main s) k cur d0.heads ps w.gone w.left xs w.said w.more bs w.whole w.rest w.places w.content w.packets same many in
+    let empty = passing_none (test there main s) k (releases_of cur d0.heads w.gone w.said w.whole) (λ j low high. missed j low (omega (arith, high, releases-length cur d0.heads w.gone w.said w.whole same many))) in
     record {
       left = w.left;
       more = w.more;
       packets = w.rest;
       kept = w.kept;
       decoder = q.decoder;
-      given = q.precincts;
+      given = q.releases;
       gone = length w.gone;
       known = known.0;
       count = ap length known.1 ∙ size;
-      passes = passes ∙ ap (λ l. l ++ passing (test there main s) (k + length w.gone) (precincts_of c.head s.stamp w.left w.more)) (empty ∙ sym (ap (λ (y : Settled). y.precincts) all));
+      passes = passes ∙ ap (λ l. l ++ passing (test there main s) (k + length w.gone) (releases_of cur d0.heads w.left w.more w.rest)) (empty ∙ sym (ap (λ (y : Settled). y.releases) all));
       feeds = λ items. refl;
     }

@@ -2,17 +2,21 @@
 use Rattle.std.proofs.Common.{◌≡◌, ◌⊎◌, ◌+◌, ◌==◌, ℕ, Bool, true, false, List, [], ◌∷◌, ◌++◌, map, length, Option, Some, None, subst, refl, sym, ◌∙◌, ap, inl, inr, if◌then◌else◌}
 use Rattle.std.specs.List.{AllByRecursion, AllZip, IsDistinct, flat_map, enumerate_from}
 use Rattle.std.proofs.lemmas.Bool.{eq-eqb}
+use Rattle.std.proofs.lemmas.List.{map-append}
 use Rattle.std.proofs.lemmas.List.Folds.{flat_map-map}
 use Rattle.wire_model.specs.Payload.{PayloadFields, Main, Body, IsPayload}
 use Rattle.wire_model.specs.Datagram.{Datagram, IsDatagram}
 use Rattle.codestream_model.proofs.TreeLemmas.{either}
 use Rattle.stream_model.specs.Report.{Precinct}
-use Rattle.stream_model.specs.Stream.{ArePartsOf, Sent, datagrams_of, IsBodyPayload, Carries, packet_span, carried_at, main_position}
-use Rattle.stream_model.specs.Decoder.{Current, Decoder, at_start, Settled, take_gap}
-use Rattle.stream_model.specs.RunLaws.{fed, handed, given_before, passing, precincts_in, reached_in, RunsGiveWhatIsReached}
+use Rattle.codestream_model.specs.Values.{Place}
+use Rattle.codestream_model.specs.Packet.{Content}
+use Rattle.stream_model.specs.Stream.{ArePackets, ArePartsOf, Sent, Carry, datagrams_of, IsBodyPayload, Carries, packet_span, carried_at, main_position}
+use Rattle.stream_model.specs.Decoder.{Current, Decoder, at_start, Release, precincts_released, Settled, take_gap}
+use Rattle.stream_model.specs.CommandLaws.{precincts_of}
+use Rattle.stream_model.specs.RunLaws.{fed, handed, given_before, passing, precincts_in, reached_in, current_of, release_of, releases_of, releases_in, heads_after, releases_reached, RunsGiveWhatIsReached, RunsReleaseWhatIsReached}
 use Rattle.stream_model.proofs.Positions.{placed, are_placed}
 use Rattle.stream_model.proofs.RunReach.{reach_lost, passing_none}
-use Rattle.stream_model.proofs.RunStates.{current_of, test}
+use Rattle.stream_model.proofs.RunStates.{test}
 use Rattle.stream_model.proofs.RunStream.{IsBodyOf, fed-append, handed-append, IsWhole, with_main, IsOther, lost_bodies}
 
 -- what is reached of codestreams whose first Main has this position
@@ -28,33 +32,44 @@ any_number f g i j at (s ∷ sent) = ap (λ l. g at s ∷ l) (any_number f g (i 
 abbrev KeepsCounts : Decoder → Decoder → Type 0
 KeepsCounts d0 d = (d.unsupported ≡ d0.unsupported) × (d.disagreed ≡ d0.disagreed) × (d.broken ≡ d0.broken)
 
--- one codestream, be its Main there or missing: what is given, and which main header is in force then
-one_fed : (d : Decoder) (s : Sent) (main : ℕ) (there : ℕ → Bool) → IsWhole s → IsOther d.current s.stamp
-    → ((fed d (handed there main (datagrams_of s))).precincts ≡ passing (test there main s) 0 (precincts_in s))
-    × KeepsCounts d (fed d (handed there main (datagrams_of s))).decoder
-    × (((fed d (handed there main (datagrams_of s))).decoder.current ≡ Some (current_of s)) ⊎ (((fed d (handed there main (datagrams_of s))).decoder.current ≡ d.current) ⊎ ((fed d (handed there main (datagrams_of s))).decoder.current ≡ None)))
+-- which main header is in force after a codestream: its own, the one before, or none
+abbrev InForce : Decoder → Sent → Option Current → Type 0
+InForce d s current = (current ≡ Some (current_of s)) ⊎ ((current ≡ d.current) ⊎ (current ≡ None))
+
+-- what is known once a codestream was fed whose Main was there or not
+record OneFed (d : Decoder) (s : Sent) (main : ℕ) (there : ℕ → Bool) (here : Bool) (y : Settled) : Type 0 where
+  releases : y.releases ≡ passing (test there main s) 0 (releases_in (heads_after here d.heads) s)
+  counts : KeepsCounts d y.decoder
+  in_force : InForce d s y.decoder.current
+  heads : y.decoder.heads ≡ heads_after here d.heads
+
+-- one codestream, be its Main there or missing: what is released, and which main header is in force then
+one_fed : (d : Decoder) (s : Sent) (main : ℕ) (there : ℕ → Bool) → IsWhole s → IsOther d.current s.stamp → OneFed d s main there (there main) (fed d (handed there main (datagrams_of s)))
 one_fed d s main there w other =
     let items = handed there (main + 1) s.bodies in
-    let R : Settled → Type 0 = λ y. (y.precincts ≡ passing (test there main s) 0 (precincts_in s)) × KeepsCounts d y.decoder × ((y.decoder.current ≡ Some (current_of s)) ⊎ ((y.decoder.current ≡ d.current) ⊎ (y.decoder.current ≡ None))) in
-    let P : Bool → Type 0 = λ b. R (fed d ((if b then Some s.main else None) ∷ items)) in
+    let P : Bool → Type 0 = λ b. OneFed d s main there b (fed d ((if b then Some s.main else None) ∷ items)) in
     elim (either (there main)) [
-      | inl t ↦ let r = with_main d s main there w t in subst P (sym t) (r.0, (r.1.unsupported, r.1.disagreed, r.1.broken), inl r.1.current_is)
+      | inl t ↦
+          let r = with_main d s main there w t in
+          subst P (sym t) (record { releases = r.0; counts = (r.1.unsupported, r.1.disagreed, r.1.broken); in_force = inl r.1.current_is; heads = r.1.heads })
       | inr t ↦
           let r = lost_bodies d d.current s there (main + 1) s.bodies w.bodies other in
-          let none = passing_none (test there main s) 0 (precincts_in s) (λ j low high. reach_lost there (carried_at main s) j (packet_span s main j) t) in
-          let counts : KeepsCounts d (fed (take_gap d) items).decoder = elim r.1 [
+          let none = passing_none (test there main s) 0 (releases_in d.heads s) (λ j low high. reach_lost there (carried_at main s) j (packet_span s main j) t) in
+          let y = (fed (take_gap d) items).decoder in
+          let counts : KeepsCounts d y = elim r.1 [
             | inl u ↦ (ap (λ (e : Decoder). e.unsupported) u, ap (λ (e : Decoder). e.disagreed) u, ap (λ (e : Decoder). e.broken) u)
             | inr u ↦ (ap (λ (e : Decoder). e.unsupported) u, ap (λ (e : Decoder). e.disagreed) u, ap (λ (e : Decoder). e.broken) u)
           ] in
-          let current = elim r.1 as (λ z. ((fed (take_gap d) items).decoder.current ≡ Some (current_of s)) ⊎ (((fed (take_gap d) items).decoder.current ≡ d.current) ⊎ ((fed (take_gap d) items).decoder.current ≡ None))) [
+          let current : InForce d s y.current = elim r.1 [
             | inl u ↦ inr (inl (ap (λ (e : Decoder). e.current) u))
             | inr u ↦ inr (inr (ap (λ (e : Decoder). e.current) u))
           ] in
-          subst P (sym t) (r.0 ∙ sym none, counts, current)
+          let heads : y.heads ≡ d.heads = elim r.1 [ inl u ↦ ap (λ (e : Decoder). e.heads) u | inr u ↦ ap (λ (e : Decoder). e.heads) u ] in
+          subst P (sym t) (record { releases = r.0 ∙ sym none; counts = counts; in_force = current; heads = heads })
     ]
 
 -- the codestreams that follow have other stamps
-others_stay : (d : Decoder) (s : Sent) (current : Option Current) (sent : List Sent) → (current ≡ Some (current_of s)) ⊎ ((current ≡ d.current) ⊎ (current ≡ None)) → AllByRecursion (λ t. (s.stamp == t) ≡ false) (map (λ t. t.stamp) sent)
+others_stay : (d : Decoder) (s : Sent) (current : Option Current) (sent : List Sent) → InForce d s current → AllByRecursion (λ t. (s.stamp == t) ≡ false) (map (λ t. t.stamp) sent)
     → AllByRecursion (λ t. IsOther d.current t.stamp) sent → AllByRecursion (λ t. IsOther current t.stamp) sent
 others_stay d s current [] e apart other = tt
 others_stay d s current (t ∷ sent) e apart other =
@@ -68,7 +83,7 @@ others_stay d s current (t ∷ sent) e apart other =
 
 -- the codestreams of a stream, one after another
 all_fed : (d : Decoder) (main : ℕ) (there : ℕ → Bool) (sent : List Sent) → AllByRecursion IsWhole sent → IsDistinct (λ a b. a == b) (map (λ s. s.stamp) sent) → AllByRecursion (λ s. IsOther d.current s.stamp) sent
-    → ((fed d (handed there main (flat_map datagrams_of sent))).precincts ≡ reached_from there main sent) × KeepsCounts d (fed d (handed there main (flat_map datagrams_of sent))).decoder
+    → ((fed d (handed there main (flat_map datagrams_of sent))).releases ≡ releases_reached there main d.heads sent) × KeepsCounts d (fed d (handed there main (flat_map datagrams_of sent))).decoder
 unfolding IsDistinct
 all_fed d main there [] whole apart other = (refl, (refl, refl, refl))
 all_fed d main there (s ∷ sent) whole apart other =
@@ -76,18 +91,51 @@ all_fed d main there (s ∷ sent) whole apart other =
     let ys = flat_map datagrams_of sent in
     let one = one_fed d s main there whole.0 other.0 in
     let mid = (fed d (handed there main xs)).decoder in
-    let next = all_fed mid (main + length xs) there sent whole.1 apart.1 (others_stay d s mid.current sent one.2 apart.0 other.1) in
-    let split : fed d (handed there main (xs ++ ys)) ≡ given_before (fed d (handed there main xs)).precincts (fed mid (handed there (main + length xs) ys)) =
+    let next = all_fed mid (main + length xs) there sent whole.1 apart.1 (others_stay d s mid.current sent one.in_force apart.0 other.1) in
+    let split : fed d (handed there main (xs ++ ys)) ≡ given_before (fed d (handed there main xs)).releases (fed mid (handed there (main + length xs) ys)) =
     ap (fed d) (handed-append there main xs ys) ∙ fed-append d (handed there main xs) (handed there (main + length xs) ys) in
-    let g : ℕ → Sent → List Precinct = λ at t. passing (test there at t) 0 (precincts_in t) in
-    let later : reached_from there (main + length xs) sent ≡ flat_map (λ l. l) (placed (λ t. length (datagrams_of t)) (λ i at t. g at t) 1 (main + length xs) sent) = ap (flat_map (λ l. l)) (any_number (λ t. length (datagrams_of t)) g 0 1 (main + length xs) sent) in (
-      ap (λ (y : Settled). y.precincts) split ∙ (ap (λ l. l ++ (fed mid (handed there (main + length xs) ys)).precincts) one.0 ∙ ap (λ l. passing (test there main s) 0 (precincts_in s) ++ l) (next.0 ∙ later)),
+    let heads = heads_after (there main) d.heads in
+    let later = ap (λ n. releases_reached there (main + length xs) n sent) one.heads in (
+      ap (λ (y : Settled). y.releases) split ∙ (ap (λ l. l ++ (fed mid (handed there (main + length xs) ys)).releases) one.releases ∙ ap (λ l. passing (test there main s) 0 (releases_in heads s) ++ l) (next.0 ∙ later)),
       (
-        ap (λ (y : Settled). y.decoder.unsupported) split ∙ (next.1.0 ∙ one.1.0),
-        ap (λ (y : Settled). y.decoder.disagreed) split ∙ (next.1.1 ∙ one.1.1),
-        ap (λ (y : Settled). y.decoder.broken) split ∙ (next.1.2 ∙ one.1.2),
+        ap (λ (y : Settled). y.decoder.unsupported) split ∙ (next.1.0 ∙ one.counts.0),
+        ap (λ (y : Settled). y.decoder.disagreed) split ∙ (next.1.1 ∙ one.counts.1),
+        ap (λ (y : Settled). y.decoder.broken) split ∙ (next.1.2 ∙ one.counts.2),
       ),
     )
+
+-- the precincts of packets that say this
+released_say : (c : Current) (n : ℕ) (ps : List Place) (xs : List Content) (bs : List (List ℕ)) → ArePackets c.head ps xs bs → precincts_released (releases_of c n ps xs bs) ≡ precincts_of c.head c.stamp ps xs
+released_say c n [] [] [] a = refl
+released_say c n [] [] (b ∷ bs) a = absurd a
+released_say c n [] (x ∷ xs) bs a = absurd a
+released_say c n (p ∷ ps) [] bs a = absurd a
+released_say c n (p ∷ ps) (x ∷ xs) [] a = absurd a
+released_say c n (p ∷ ps) (x ∷ xs) (b ∷ bs) a = ap (λ l. (release_of c n p x b).precinct ∷ l) (released_say c n ps xs bs a.1)
+
+-- what passes of some items passes of what is made of them
+passing-map : {A B : Type 0} (f : A → B) (t : ℕ → Bool) (k : ℕ) (xs : List A) → map f (passing t k xs) ≡ passing t k (map f xs)
+passing-map f t k [] = refl
+passing-map f t k (x ∷ xs) = elim (t k) as (λ b. map f (if b then x ∷ passing t (k + 1) xs else passing t (k + 1) xs) ≡ (if b then f x ∷ passing t (k + 1) (map f xs) else passing t (k + 1) (map f xs))) [
+  | true ↦ ap (λ l. f x ∷ l) (passing-map f t (k + 1) xs)
+  | false ↦ passing-map f t (k + 1) xs
+]
+
+-- the precincts of what is released of a stream
+released_from : (there : ℕ → Bool) (main heads : ℕ) (sent : List Sent) → AllByRecursion IsWhole sent → precincts_released (releases_reached there main heads sent) ≡ reached_from there main sent
+released_from there main heads [] whole = refl
+released_from there main heads (s ∷ sent) whole =
+    let c = s.parts in
+    let n = heads_after (there main) heads in
+    let at = main + length (datagrams_of s) in
+    let f : Release → Precinct = λ x. x.precinct in
+    let first = passing (test there main s) 0 (releases_in n s) in
+    let mine : precincts_released first ≡ passing (test there main s) 0 (precincts_in s) =
+    passing-map f (test there main s) 0 (releases_in n s) ∙ ap (passing (test there main s) 0) (released_say (current_of s) n c.places c.content c.packets whole.0.parts.are_packets) in
+    let g : ℕ → Sent → List Precinct = λ at t. passing (test there at t) 0 (precincts_in t) in
+    let later : reached_from there at sent ≡ flat_map (λ l. l) (placed (λ t. length (datagrams_of t)) (λ i at t. g at t) 1 at sent) = ap (flat_map (λ l. l)) (any_number (λ t. length (datagrams_of t)) g 0 1 at sent) in
+    map-append f first (releases_reached there at n sent)
+    ∙ (ap (λ l. l ++ precincts_released (releases_reached there at n sent)) mine ∙ ap (λ l. passing (test there main s) 0 (precincts_in s) ++ l) (released_from there at n sent whole.1 ∙ later))
 
 -- each is a datagram in some bytes
 pub have_bytes : (xs : List Datagram) (datagrams : List (List ℕ)) → AllZip IsDatagram xs datagrams → AllByRecursion (λ x. (b : List ℕ) × IsDatagram x b) xs
@@ -95,12 +143,12 @@ have_bytes [] datagrams a = tt
 have_bytes (x ∷ xs) [] a = absurd a
 have_bytes (x ∷ xs) (b ∷ datagrams) a = ((b, a.0), have_bytes xs datagrams a.1)
 
--- what holds of the first items, and of those behind them
+-- what holds of the first items, and of those after them
 all_front : {A : Type 0} (P : A → Type 0) (xs ys : List A) → AllByRecursion P (xs ++ ys) → AllByRecursion P xs
 all_front P [] ys h = tt
 all_front P (x ∷ xs) ys h = (h.0, all_front P xs ys h.1)
 
--- and of those behind them
+-- and of those after them
 all_back : {A : Type 0} (P : A → Type 0) (xs ys : List A) → AllByRecursion P (xs ++ ys) → AllByRecursion P ys
 all_back P [] ys h = h
 all_back P (x ∷ xs) ys h = all_back P xs ys h.1
@@ -137,9 +185,22 @@ reached_placed there sent =
     sym (flat_map-map (λ (l : List Precinct). l) (λ (x : ℕ × Sent). passing (test there (main_position sent x.0) x.1) 0 (precincts_in x.1)) (enumerate_from 0 sent))
     ∙ ap (flat_map (λ (l : List Precinct). l)) (are_placed (λ s. length (datagrams_of s)) (λ i at s. passing (test there at s) 0 (precincts_in s)) sent)
 
--- the rules give exactly what is reached
+-- the codestreams of a stream are whole
+pub stream_whole : (sent : List Sent) (codestreams datagrams : List (List ℕ)) → Carry sent codestreams datagrams → AllByRecursion IsWhole sent
+stream_whole sent codestreams datagrams r = are_whole sent codestreams r.are_parts r.each (have_bytes (flat_map datagrams_of sent) datagrams r.are_datagrams)
+
+-- the precincts of what is released of a stream are what is reached
+pub released_is_reached : (there : ℕ → Bool) (sent : List Sent) → AllByRecursion IsWhole sent → precincts_released (releases_reached there 0 0 sent) ≡ reached_in there sent
+released_is_reached there sent whole = released_from there 0 0 sent whole ∙ sym (reached_placed there sent)
+
+-- the rules release exactly what is reached
+pub runs_release : RunsReleaseWhatIsReached
+runs_release sent codestreams datagrams there r =
+    (all_fed at_start 0 there sent (stream_whole sent codestreams datagrams r) r.apart (none_yet sent)).0
+
+-- so they give exactly the precincts that are reached
 pub runs_give : RunsGiveWhatIsReached
 runs_give sent codestreams datagrams there r =
-    let whole = are_whole sent codestreams r.are_parts r.each (have_bytes (flat_map datagrams_of sent) datagrams r.are_datagrams) in
+    let whole = stream_whole sent codestreams datagrams r in
     let f = all_fed at_start 0 there sent whole r.apart (none_yet sent) in
-    (f.0 ∙ sym (reached_placed there sent), record { unsupported = f.1.0; disagreed = f.1.1; broken = f.1.2 })
+    (ap precincts_released f.0 ∙ released_is_reached there sent whole, record { unsupported = f.1.0; disagreed = f.1.1; broken = f.1.2 })

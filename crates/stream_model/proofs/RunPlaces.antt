@@ -1,4 +1,4 @@
--- Where the packets of a codestream stand that are still to come, before a Body, and where its marks do.
+-- Where the packets of a codestream are that are still to come, before a Body, and where its marks do.
 use Rattle.std.proofs.Common.{◌≡◌, ◌⊎◌, ◌<◌, ◌≤◌, ◌+◌, ◌-◌, ◌==◌, ℕ, zero, suc, Bool, true, List, [], ◌∷◌, ◌++◌, length, take, drop, Some, subst, refl, sym, ◌∙◌, ap, inl, inr, arith, append_assoc}
 use Rattle.std.specs.Prelude.{find, slice_get}
 use Rattle.std.specs.List.{sum_by}
@@ -25,7 +25,7 @@ use Rattle.stream_model.proofs.StreamShapes.{sum-take-up, body_has_byte}
 use Rattle.stream_model.proofs.Found.{packets_have_bytes, starts_rise, precinct_is_found}
 use Rattle.stream_model.proofs.RunRules.{IsUnfinished, Went}
 
--- Before a Body that begins so many bytes after SOD: the packets that haven't ended by then, of which the first has these bytes
+-- Before a Body that begins n bytes after SOD: the packets that haven't ended by then, of which the first has these bytes
 -- already, and what is still to come after SOD.
 pub record Here (c : Parts) (at : ℕ) (ps : List Place) (xs : List Content) (bs : List (List ℕ)) (got todo : List ℕ) : Type 0 where
   pub before : List Place
@@ -60,7 +60,7 @@ all_whole : (bs whole rest : List (List ℕ)) → bs ≡ [] → bs ≡ whole ++ 
 all_whole bs [] rest e f = refl
 all_whole bs (w ∷ whole) rest e f = absurd (omega (arith, ap length e, ap length f, length-append (w ∷ whole) rest))
 
--- behind a Body
+-- after a Body
 pub next_here : (c : Parts) (at : ℕ) (ps : List Place) (xs : List Content) (bs : List (List ℕ)) (got payload todo : List ℕ) (h : Here c at ps xs bs got (payload ++ todo)) (d : Decoder) (cur : Current) (s : Settled)
     → cur.head ≡ c.head → (w : Went d cur ps xs bs (got ++ payload) s) → (n : Here c (at + length payload) w.left w.more w.rest w.kept todo) × (n.done ≡ h.done ++ w.whole)
 next_here c at ps xs bs got payload todo h d cur s e w =
@@ -110,7 +110,7 @@ next_here c at ps xs bs got payload todo h d cur s e w =
 pub sum_is : (bs : List (List ℕ)) → sum_by (λ b. length b) bs ≡ length (joined bs)
 sum_is bs = sym (length-flat_map (λ (b : List ℕ). b) bs)
 
--- where a packet starts that is among the first, or behind them
+-- where a packet starts that is among the first, or after them
 pub start_among : (c : Parts) (done bs : List (List ℕ)) (j : ℕ) → c.packets ≡ done ++ bs → packet_start c (length done + j) ≡ length (joined done) + length (joined (take j bs))
 start_among c done bs j e =
     ap (λ l. sum_by (λ b. length b) (take (length done + j) l)) e
@@ -146,7 +146,7 @@ body_is bodies i place low high =
 whole_front : (bs whole rest : List (List ℕ)) → bs ≡ whole ++ rest → length (joined (take (length whole) bs)) ≡ length (joined whole)
 whole_front bs whole rest e = ap (λ (l : List (List ℕ)). length (joined (take (length whole) l))) e ∙ ap (λ (l : List (List ℕ)). length (joined l)) (take-append_seam whole rest)
 
--- the packets that end within a Body end behind its start, and not behind its end
+-- the packets that end within a Body end after its start, and not after its end
 pub gone_between : (c : Parts) (at : ℕ) (ps : List Place) (xs : List Content) (bs : List (List ℕ)) (got payload todo : List ℕ) (h : Here c at ps xs bs got todo) (d : Decoder) (cur : Current) (s : Settled) → cur.head ≡ c.head
     → (w : Went d cur ps xs bs (got ++ payload) s) → (j : ℕ) → length h.done ≤ j → j < length h.done + length w.gone → (at < packet_start c (j + 1)) × (packet_start c (j + 1) ≤ at + length payload)
 gone_between c at ps xs [] got payload todo h d cur s e w j low high =
@@ -184,12 +184,12 @@ split_at [] j x e = absurd (cc)
 split_at (y ∷ xs) zero x e = let s : y ≡ x = cc in ([], xs, ap (λ z. z ∷ xs) s, refl)
 split_at (y ∷ xs) (suc j) x e = let r = split_at xs j x e in (y ∷ r.0, r.1, ap (λ l. y ∷ l) r.2, ap suc r.3)
 
--- an item behind others
+-- an item after others
 get_behind : {A : Type 0} (before xs : List A) (j : ℕ) → slice_get (before ++ xs) (length before + j) ≡ slice_get xs j
 get_behind [] xs j = ap (slice_get xs) (let e : 0 + j ≡ j = omega arith in e)
 get_behind (y ∷ before) xs j = ap (slice_get (y ∷ (before ++ xs))) (let e : suc (length before) + j ≡ suc (length before + j) = omega arith in e) ∙ get_behind before xs j
 
--- where a mark stands among the packets that are still to come: before it these, and then that of its precinct
+-- where a mark is among the packets that are still to come: before it these, and then that of its precinct
 pub record Ahead (c : Parts) (done : ℕ) (ps : List Place) (bs : List (List ℕ)) (got : List ℕ) (pos : ℕ) (cur : Current) (m : Mark) : Type 0 where
   pub ahead : List Place
   pub p : Place

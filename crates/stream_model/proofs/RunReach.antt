@@ -3,15 +3,13 @@ use Rattle.std.proofs.Common.{◌≡◌, ◌⊎◌, ◌<◌, ◌≤◌, ◌+◌,
 use Rattle.std.specs.List.{AllByRecursion, list_any, list_all, range_with_len}
 use Rattle.std.proofs.lemmas.Bool.{cases_lt, le-leb, lt-leb}
 use Rattle.std.proofs.lemmas.Option.{slice_get_within}
-use Rattle.codestream_model.specs.Values.{Head, Place}
-use Rattle.codestream_model.specs.PacketOrder.{pid}
+use Rattle.codestream_model.specs.Values.{Place}
 use Rattle.codestream_model.specs.Packet.{Content}
 use Rattle.codestream_model.proofs.Members.{Has}
-use Rattle.stream_model.specs.Report.{Precinct}
+use Rattle.stream_model.specs.Decoder.{Current}
 use Rattle.stream_model.specs.Stream.{Parts, ArePartsOf, Sent, Mark, IsResync, packet_start, precinct_at}
 use Rattle.stream_model.specs.Reached.{CarriedPacket, ResyncPoint, Carried}
-use Rattle.stream_model.specs.CommandLaws.{precincts_of}
-use Rattle.stream_model.specs.RunLaws.{reaches, passing}
+use Rattle.stream_model.specs.RunLaws.{reaches, passing, release_of, releases_of}
 use Rattle.stream_model.proofs.Found.{packets_have_bytes, starts_rise, precinct_is_found}
 use Rattle.stream_model.proofs.RunPlaces.{as_many}
 
@@ -25,13 +23,9 @@ either_true true c e = refl
 either_true false c e = e
 
 -- what is chosen before a list
-chosen : (b : Bool) (x : Precinct) (all xs ys : List Precinct) → all ≡ xs ++ ys → (if b then x ∷ all else all) ≡ (if b then x ∷ xs else xs) ++ ys
+chosen : {A : Type 0} (b : Bool) (x : A) (all xs ys : List A) → all ≡ xs ++ ys → (if b then x ∷ all else all) ≡ (if b then x ∷ xs else xs) ++ ys
 chosen true x all xs ys e = ap (λ l. x ∷ l) e
 chosen false x all xs ys e = e
-
--- the precinct of a packet
-abbrev precinct_of : Head → ℕ → Place → Content → Precinct
-precinct_of h stamp p x = record { stamp = stamp; pid = pid h p; place = p; blocks = x.blocks; bytes = x.bytes }
 
 -- all of a range pass,
 pub range_all : (t : ℕ → Bool) (a n : ℕ) → ((i : ℕ) → a ≤ i → i < a + n → t i ≡ true) → list_all t (range_with_len a n) ≡ true
@@ -76,7 +70,7 @@ reach_true there c j packet r main has low run =
     let v : list_any t c.resyncs ≡ true = any_has t c.resyncs r has u in
     rw (main, v) refl
 
--- and isn't where each resync point is of a later precinct, or something is missing behind it
+-- and isn't where each resync point is of a later precinct, or something is missing after it
 abbrev pub Fails : (ℕ → Bool) → ℕ → ℕ → ResyncPoint → Type 0
 Fails there j last r = (j < r.precinct) ⊎ ((x : ℕ) × (r.at ≤ x) × (x ≤ last) × (there x ≡ false))
 
@@ -101,41 +95,44 @@ pub reach_lost : (there : ℕ → Bool) (c : Carried) (j : ℕ) (packet : Carrie
 reach_lost there c j packet e = first_fails (there c.main) (list_any (λ r. nat_le r.precinct j && list_all there (range_with_len r.at (packet.last + 1 - r.at))) c.resyncs) e
 
 -- the precincts that pass
-pub passing-append : (t : ℕ → Bool) (k : ℕ) (xs ys : List Precinct) → passing t k (xs ++ ys) ≡ passing t k xs ++ passing t (k + length xs) ys
+pub passing-append : {A : Type 0} (t : ℕ → Bool) (k : ℕ) (xs ys : List A) → passing t k (xs ++ ys) ≡ passing t k xs ++ passing t (k + length xs) ys
 passing-append t k [] ys = ap (λ n. passing t n ys) (let e : k ≡ k + 0 = omega arith in e)
 passing-append t k (x ∷ xs) ys =
     let e : k + 1 + length xs ≡ k + suc (length xs) = omega arith in
     chosen (t k) x (passing t (k + 1) (xs ++ ys)) (passing t (k + 1) xs) (passing t (k + suc (length xs)) ys) (passing-append t (k + 1) xs ys ∙ ap (λ n. passing t (k + 1) xs ++ passing t n ys) e)
 
 -- all pass where the test holds of each number
-pub passing_all : (t : ℕ → Bool) (k : ℕ) (xs : List Precinct) → ((j : ℕ) → k ≤ j → j < k + length xs → t j ≡ true) → passing t k xs ≡ xs
+pub passing_all : {A : Type 0} (t : ℕ → Bool) (k : ℕ) (xs : List A) → ((j : ℕ) → k ≤ j → j < k + length xs → t j ≡ true) → passing t k xs ≡ xs
 passing_all t k [] h = refl
 passing_all t k (x ∷ xs) h = let e = h k (omega arith) (omega arith) in rw e (ap (λ l. x ∷ l) (passing_all t (k + 1) xs (λ j low high. h j (omega arith) (omega arith))))
 
 -- and none where it fails
-pub passing_none : (t : ℕ → Bool) (k : ℕ) (xs : List Precinct) → ((j : ℕ) → k ≤ j → j < k + length xs → t j ≡ false) → passing t k xs ≡ []
+pub passing_none : {A : Type 0} (t : ℕ → Bool) (k : ℕ) (xs : List A) → ((j : ℕ) → k ≤ j → j < k + length xs → t j ≡ false) → passing t k xs ≡ []
 passing_none t k [] h = refl
 passing_none t k (x ∷ xs) h = let e = h k (omega arith) (omega arith) in rw e (passing_none t (k + 1) xs (λ j low high. h j (omega arith) (omega arith)))
 
--- the precincts of packets, and of those behind them
-pub precincts-append : (h : Head) (stamp : ℕ) (ps qs : List Place) (xs ys : List Content) → length ps ≡ length xs → precincts_of h stamp (ps ++ qs) (xs ++ ys) ≡ precincts_of h stamp ps xs ++ precincts_of h stamp qs ys
-precincts-append h stamp [] qs [] ys e = refl
-precincts-append h stamp [] qs (x ∷ xs) ys e = absurd (omega arith)
-precincts-append h stamp (p ∷ ps) qs [] ys e = absurd (omega arith)
-precincts-append h stamp (p ∷ ps) qs (x ∷ xs) ys e = ap (λ l. precinct_of h stamp p x ∷ l) (precincts-append h stamp ps qs xs ys (omega arith))
+-- The releases of packets, and of those after them.
+pub releases-append : (c : Current) (n : ℕ) (ps qs : List Place) (xs ys : List Content) (bs cs : List (List ℕ)) → length ps ≡ length xs → length ps ≡ length bs
+    → releases_of c n (ps ++ qs) (xs ++ ys) (bs ++ cs) ≡ releases_of c n ps xs bs ++ releases_of c n qs ys cs
+releases-append c n [] qs [] ys [] cs e f = refl
+releases-append c n [] qs [] ys (b ∷ bs) cs e f = absurd (omega arith)
+releases-append c n [] qs (x ∷ xs) ys bs cs e f = absurd (omega arith)
+releases-append c n (p ∷ ps) qs [] ys bs cs e f = absurd (omega arith)
+releases-append c n (p ∷ ps) qs (x ∷ xs) ys [] cs e f = absurd (omega arith)
+releases-append c n (p ∷ ps) qs (x ∷ xs) ys (b ∷ bs) cs e f = ap (λ l. release_of c n p x b ∷ l) (releases-append c n ps qs xs ys bs cs (omega arith) (omega arith))
 
--- they are as many as the places
-pub precincts-length : (h : Head) (stamp : ℕ) (ps : List Place) (xs : List Content) → length ps ≡ length xs → length (precincts_of h stamp ps xs) ≡ length ps
-precincts-length h stamp [] [] e = refl
-precincts-length h stamp [] (x ∷ xs) e = refl
-precincts-length h stamp (p ∷ ps) [] e = absurd (omega arith)
-precincts-length h stamp (p ∷ ps) (x ∷ xs) e = ap suc (precincts-length h stamp ps xs (omega arith))
+-- They are as many as the places.
+pub releases-length : (c : Current) (n : ℕ) (ps : List Place) (xs : List Content) (bs : List (List ℕ)) → length ps ≡ length xs → length ps ≡ length bs → length (releases_of c n ps xs bs) ≡ length ps
+releases-length c n [] xs bs e f = refl
+releases-length c n (p ∷ ps) [] bs e f = absurd (omega arith)
+releases-length c n (p ∷ ps) (x ∷ xs) [] e f = absurd (omega arith)
+releases-length c n (p ∷ ps) (x ∷ xs) (b ∷ bs) e f = ap suc (releases-length c n ps xs bs (omega arith) (omega arith))
 
 -- the resync point of a mark
 abbrev pub point : ℕ → Sent → Mark → ResyncPoint
 point main s m = record { at = main + 1 + m.body; precinct = precinct_at s.parts m.place }
 
--- a mark that stands behind a packet's end is of a later precinct
+-- a mark that is after a packet's end is of a later precinct
 pub later_precinct : (c : Parts) (codestream : List ℕ) (a : ArePartsOf c codestream) (j from : ℕ) (m : Mark) → j < length c.packets → packet_start c (j + 1) ≤ from → IsResync c m → from ≤ m.place → j < precinct_at c m.place
 later_precinct c codestream a j from m low ends r high =
     let q = r.precinct in

@@ -1,28 +1,27 @@
 -- What the decoder's rules make of a run of a codestream's packets, as far as its bytes are there.
-use Rattle.std.proofs.Common.{◌≡◌, ◌⊎◌, ◌<◌, ◌≤◌, ◌+◌, ℕ, zero, suc, List, [], ◌∷◌, ◌++◌, length, drop, Option, Some, None, subst, refl, sym, ◌∙◌, ap, inl, inr, arith, append_assoc}
+use Rattle.std.proofs.Common.{◌≡◌, ◌⊎◌, ◌<◌, ◌≤◌, ◌+◌, ℕ, zero, suc, List, [], ◌∷◌, ◌++◌, length, take, drop, Option, Some, None, subst, refl, sym, ◌∙◌, ap, inl, inr, arith, append_assoc}
 use Rattle.std.proofs.lemmas.Bool.{cases_lt}
 use Rattle.std.proofs.lemmas.List.{append-nil, length-append}
+use Rattle.std.proofs.Math.Seq.{take-append_seam}
 use Rattle.codestream_model.specs.Values.{Head, Place}
 use Rattle.codestream_model.specs.Precincts.{grids}
-use Rattle.codestream_model.specs.PacketOrder.{pid}
 use Rattle.codestream_model.specs.Packet.{SpellsPacketHeader, Content, SpellsPacket}
 use Rattle.codestream_model.specs.Codestream.{joined}
 use Rattle.codestream_model.proofs.OneWayLemmas.{fronts, same_front}
 use Rattle.codestream_model.proofs.OwnBands.{own_bands}
 use Rattle.codestream_model.proofs.MarkedVerdicts.{marked_front_needs}
-use Rattle.stream_model.specs.Report.{Precinct}
 use Rattle.stream_model.specs.Stream.{ArePackets}
-use Rattle.stream_model.specs.CommandLaws.{precincts_of}
-use Rattle.stream_model.specs.Decoder.{Current, Mark, Decoder, Part, found_packet, Releases, Changes, Waits, run_of, rule_of_packet, rule, Settled, with_precinct, settle}
+use Rattle.stream_model.specs.RunLaws.{release_of, releases_of}
+use Rattle.stream_model.specs.Decoder.{Current, Mark, Decoder, Part, found_packet, Releases, Changes, Waits, run_of, rule_of_packet, rule, Release, Settled, with_release, settle}
 use Rattle.stream_model.proofs.Found.{packet_has_bytes}
 use Rattle.stream_model.proofs.PacketsFound.{packet_found, segments_taken, stands_found}
 
--- a list behind which nothing follows
+-- a list after which nothing follows
 no_items : (xs got header : List ℕ) → header ≡ got ++ xs → length xs ≡ 0 → got ≡ header ++ []
 no_items [] got header e z = sym (append-nil got) ∙ (sym e ∙ sym (append-nil header))
 no_items (x ∷ xs) got header e z = absurd (omega arith)
 
--- behind the header of a packet not all of its segments are there
+-- after the header of a packet not all of its segments are there
 part_behind : (h : Head) (p : Place) (x : Content) (packet got rest : List ℕ) (s : SpellsPacket h p x packet) → packet ≡ got ++ rest → 1 ≤ length rest → (more : List ℕ) → got ≡ s.header ++ more → found_packet h p got ≡ Part
 part_behind h p x packet got rest s e some more g =
     stands_found h p got Part (inr (record {
@@ -62,8 +61,8 @@ part_found h p x packet got rest s e some = elim (cases_lt (length got) (length 
 abbrev pub state : Decoder → Current → Option (List Place) → List ℕ → Option Mark → Decoder
 state d c run bytes mark = record d { current = Some c; run = run; bytes = bytes; mark = mark }
 
--- a rule that gives a precinct, one that changes the state, and one that waits
-pub settle_releases : (n : ℕ) (d next : Decoder) (x : Precinct) → rule d d.current ≡ Releases x next → settle (suc n) d ≡ with_precinct x (settle n next)
+-- a rule that releases a packet, one that changes the state, and one that waits
+pub settle_releases : (n : ℕ) (d next : Decoder) (x : Release) → rule d d.current ≡ Releases x next → settle (suc n) d ≡ with_release x (settle n next)
 unfolding settle
 settle_releases n d next x e = rw (e, settle) refl
 
@@ -73,7 +72,7 @@ unfolding settle
 settle_changes n d next e = rw (e, settle) refl
 
 -- and waiting ends
-pub settle_waits : (n : ℕ) (d next : Decoder) → rule d d.current ≡ Waits next → settle (suc n) d ≡ record { precincts = []; decoder = next }
+pub settle_waits : (n : ℕ) (d next : Decoder) → rule d d.current ≡ Waits next → settle (suc n) d ≡ record { releases = []; decoder = next }
 unfolding settle
 settle_waits n d next e = rw (e, settle) refl
 
@@ -100,15 +99,11 @@ pub record Went (d : Decoder) (c : Current) (ps : List Place) (xs : List Content
   pub within : length (joined whole) ≤ length got
   pub bytes : (rest ≡ []) ⊎ (got ≡ joined whole ++ kept)
   pub unfinished : IsUnfinished rest kept
-  pub is : s ≡ record { precincts = precincts_of c.head c.stamp gone said; decoder = state d c (run_of left) kept None }
-
--- the precinct that a packet gives
-abbrev pub given : Current → Place → Content → Precinct
-given c p x = record { stamp = c.stamp; pid = pid c.head p; place = p; blocks = x.blocks; bytes = x.bytes }
+  pub is : s ≡ record { releases = releases_of c d.heads gone said whole; decoder = state d c (run_of left) kept None }
 
 -- one packet more
 pub went_more : (d : Decoder) (c : Current) (p : Place) (ps : List Place) (x : Content) (xs : List Content) (b : List ℕ) (bs : List (List ℕ)) (got : List ℕ) (s : Settled) → SpellsPacket c.head p x b → Went d c ps xs bs got s
-    → Went d c (p ∷ ps) (x ∷ xs) (b ∷ bs) (b ++ got) (with_precinct (given c p x) s)
+    → Went d c (p ∷ ps) (x ∷ xs) (b ∷ bs) (b ++ got) (with_release (release_of c d.heads p x b) s)
 went_more d c p ps x xs b bs got s is w = record {
   gone = p ∷ w.gone;
   left = w.left;
@@ -125,19 +120,24 @@ went_more d c p ps x xs b bs got s is w = record {
   within = omega (arith, w.within, length-append b (joined w.whole), length-append b got);
   bytes = elim w.bytes [ inl e ↦ inl e | inr e ↦ inr (ap (λ (l : List ℕ). b ++ l) e ∙ sym (append_assoc b (joined w.whole) w.kept)) ];
   unfinished = w.unfinished;
-  is = ap (with_precinct (given c p x)) w.is;
+  is = ap (with_release (release_of c d.heads p x b)) w.is;
 }
 
--- the rule where a whole packet stands and no mark
+-- the release of a packet with these bytes of its segments
+abbrev pub release_from : Current → ℕ → Place → Content → List ℕ → List ℕ → Release
+release_from c heads p x bytes raw = release_of c heads p (record { blocks = x.blocks; bytes = bytes }) raw
+
+-- the rule where there is a whole packet and no mark
 packet_released : (d : Decoder) (c : Current) (p : Place) (ps : List Place) (x : Content) (b got : List ℕ) → SpellsPacket c.head p x b
-    → rule (state d c (Some (p ∷ ps)) (b ++ got) None) (Some c) ≡ Releases (given c p x) (state d c (run_of ps) got None)
+    → rule (state d c (Some (p ∷ ps)) (b ++ got) None) (Some c) ≡ Releases (release_of c d.heads p x b) (state d c (run_of ps) got None)
 packet_released d c p ps x b got s =
     let t = segments_taken c.head p x b got s in
     ap (rule_of_packet (state d c (Some (p ∷ ps)) (b ++ got) None) c p ps) (packet_found c.head p x b got s)
-    ∙ (ap (λ (l : List ℕ). Releases (record { stamp = c.stamp; pid = pid c.head p; place = p; blocks = x.blocks; bytes = l }) (state d c (run_of ps) (drop (length b) (b ++ got)) None)) t.0
-    ∙ ap (λ (l : List ℕ). Releases (given c p x) (state d c (run_of ps) l None)) t.1)
+    ∙ (ap (λ (l : List ℕ). Releases (release_from c d.heads p x l (take (length b) (b ++ got))) (state d c (run_of ps) (drop (length b) (b ++ got)) None)) t.0
+    ∙ (ap (λ (l : List ℕ). Releases (release_from c d.heads p x x.bytes l) (state d c (run_of ps) (drop (length b) (b ++ got)) None)) (take-append_seam b got)
+    ∙ ap (λ (l : List ℕ). Releases (release_of c d.heads p x b) (state d c (run_of ps) l None)) t.1))
 
--- the rule where less than a packet stands and no mark
+-- the rule where there is less than a packet and no mark
 part_waits : (d : Decoder) (c : Current) (p : Place) (ps : List Place) (x : Content) (b got rest : List ℕ) → SpellsPacket c.head p x b → b ≡ got ++ rest → 1 ≤ length rest
     → rule (state d c (Some (p ∷ ps)) got None) (Some c) ≡ Waits (state d c (Some (p ∷ ps)) got None)
 part_waits d c p ps x b got rest s e some = ap (rule_of_packet (state d c (Some (p ∷ ps)) got None) c p ps) (part_found c.head p x b got rest s e some)
@@ -147,7 +147,7 @@ whole_packet : (b got more : List ℕ) → b ≡ got ++ more → length b ≤ le
 whole_packet b got [] g there = sym g
 whole_packet b got (x ∷ more) g there = absurd (omega (arith, there, ap length g, length-append got (x ∷ more)))
 
--- what the rules give where no mark stands in the bytes
+-- what the rules give where no mark is in the bytes
 pub goes_on : (n : ℕ) (d : Decoder) (c : Current) (ps : List Place) (xs : List Content) (bs : List (List ℕ)) (got todo tail : List ℕ) → ArePackets c.head ps xs bs → joined bs ++ tail ≡ got ++ todo → length got + 2 ≤ n
     → Went d c ps xs bs got (settle n (state d c (run_of ps) got None))
 goes_on zero d c ps xs bs got todo tail a e enough = absurd (omega arith)
@@ -181,7 +181,7 @@ goes_on (suc n) d c (p ∷ ps) (x ∷ xs) (b ∷ bs) got todo tail a e enough =
     let behind = (same_front b b (joined bs ++ tail) (more ++ todo) refl split).1 in
     let w = went_more d c p ps x xs b bs more (settle n (state d c (run_of ps) more None)) a.0 (goes_on n d c ps xs bs more todo tail a.1 behind (omega (arith, enough, some, ap length g, length-append b more))) in
     let W : Settled → Type 0 = λ s. Went d c (p ∷ ps) (x ∷ xs) (b ∷ bs) (b ++ more) s in
-    let r = subst W (sym (settle_releases n (state d c (Some (p ∷ ps)) (b ++ more) None) (state d c (run_of ps) more None) (given c p x) (packet_released d c p ps x b more a.0))) w in
+    let r = subst W (sym (settle_releases n (state d c (Some (p ∷ ps)) (b ++ more) None) (state d c (run_of ps) more None) (release_of c d.heads p x b) (packet_released d c p ps x b more a.0))) w in
     let V : List ℕ → Type 0 = λ l. Went d c (p ∷ ps) (x ∷ xs) (b ∷ bs) l (settle (suc n) (state d c (Some (p ∷ ps)) l None)) in
     subst V (sym g) r) in
     elim f.1 [

@@ -11,8 +11,8 @@ use Rattle.codestream_model.proofs.Members.{Has}
 use Rattle.codestream_model.proofs.TreeLemmas.{either}
 use Rattle.stream_model.specs.Stream.{Parts, ArePartsOf, Sent, Mark, IsResync, mark_of, marks, packet_start, payload_start, precinct_at, packet_span, carried_at}
 use Rattle.stream_model.specs.Reached.{ResyncPoint}
-use Rattle.stream_model.specs.Decoder.{Current, Decoder, run_of}
-use Rattle.stream_model.specs.RunLaws.{reaches}
+use Rattle.stream_model.specs.Decoder.{Decoder, run_of}
+use Rattle.stream_model.specs.RunLaws.{reaches, current_of}
 use Rattle.stream_model.proofs.Positions.{placed}
 use Rattle.stream_model.proofs.CutPayloads.{all-append}
 use Rattle.stream_model.proofs.CutBodies.{all_imply}
@@ -20,11 +20,11 @@ use Rattle.stream_model.proofs.RunRules.{state}
 use Rattle.stream_model.proofs.RunPlaces.{Here, body_is}
 use Rattle.stream_model.proofs.RunReach.{Fails, reach_false, point, later_precinct}
 
--- the marks of Bodies, of which the first has this number and begins so many bytes after SOD
+-- the marks of Bodies, of which the first has this number and begins n bytes after SOD
 abbrev pub marks_from : ℕ → ℕ → List Datagram → List Mark
 marks_from i at rest = flat_map (λ ms. ms) (placed (λ x. length x.codestream) (λ j from x. mark_of j from x.payload) i at rest)
 
--- they stand behind its start
+-- they are after its start
 mark_high : (i at : ℕ) (h : PayloadFields) → AllByRecursion (λ m. (at ≤ m.place) × (m.body ≡ i)) (mark_of i at h)
 mark_high i at (Main h) = tt
 mark_high i at (Body h) = elim (either h.ordb) [ inl t ↦ rw t ((omega arith, refl), tt) | inr t ↦ rw t tt ]
@@ -41,23 +41,19 @@ marks_high i at (x ∷ rest) =
 pub own_body : (i at : ℕ) (h : PayloadFields) → AllByRecursion (λ m. m.body ≡ i) (mark_of i at h)
 own_body i at h = all_imply (λ (m : Mark). (at ≤ m.place) × (m.body ≡ i)) (λ m. m.body ≡ i) (mark_of i at h) (λ m t. t.1) (mark_high i at h)
 
--- the main header in force
-abbrev pub current_of : Sent → Current
-current_of s = record { stamp = s.stamp; head = s.parts.head; order = s.parts.places }
-
 -- whether a precinct is reached
 abbrev pub test : (ℕ → Bool) → ℕ → Sent → ℕ → Bool
 test there main s j = reaches there (carried_at main s) j (packet_span s main j)
 
--- something is missing behind a resync point, below this position
+-- something is missing after a resync point, below this position
 abbrev pub Lost : (ℕ → Bool) → ℕ → ResyncPoint → Type 0
 Lost there bound r = (x : ℕ) × (r.at ≤ x) × (x < bound) × (there x ≡ false)
 
--- something is missing behind the Main, and behind each of these marks
+-- something is missing after the Main, and after each of these marks
 abbrev pub Dead : (ℕ → Bool) → ℕ → Sent → ℕ → List Mark → Type 0
 Dead there main s bound ms = Lost there bound (record { at = main; precinct = 0 }) × AllByRecursion (λ m. Lost there bound (point main s m)) ms
 
--- nothing is missing behind a resync point of a precinct at or before this one
+-- nothing is missing after a resync point of a precinct at or before this one
 abbrev pub Alive : (ℕ → Bool) → ℕ → Sent → ℕ → ℕ → Type 0
 Alive there main s bound k = (r : ResyncPoint) × Has (carried_at main s).resyncs r × (r.precinct ≤ k) × ((x : ℕ) → r.at ≤ x → x < bound → there x ≡ true)
 
@@ -76,7 +72,7 @@ pub record At (d0 : Decoder) (s : Sent) (main : ℕ) (there : ℕ → Bool) (i a
       (Alive there main s (main + 1 + i) (length here.done) × (d ≡ state d0 (current_of s) (run_of ps) got None))
       ⊎ (Dead there main s (main + 1 + i) earlier × (d ≡ state d0 (current_of s) None [] None))
 
--- where the Body stands
+-- where the Body is
 pub body_start : (d0 : Decoder) (s : Sent) (main : ℕ) (there : ℕ → Bool) (i at : ℕ) (x : Datagram) (rest : List Datagram) (ps : List Place) (xs : List Content) (bs : List (List ℕ)) (got : List ℕ) (d : Decoder) (a : At d0 s main there i at (x ∷ rest) ps xs bs got d)
     → (payload_start s.bodies i ≡ at) × (payload_start s.bodies (i + 1) ≡ at + length x.codestream)
 body_start d0 s main there i at x rest ps xs bs got d a =
@@ -88,7 +84,7 @@ body_start d0 s main there i at x rest ps xs bs got d a =
     let g = ap (λ n. payload_start s.bodies (n + 1)) (sym a.count) in
     (omega (arith, one, e, a.start), omega (arith, two, g, last, a.start))
 
--- the last byte of a packet that ends in the Body stands in it
+-- the last byte of a packet that ends in the Body is in it
 pub last_is : (d0 : Decoder) (s : Sent) (main : ℕ) (there : ℕ → Bool) (i at : ℕ) (x : Datagram) (rest : List Datagram) (ps : List Place) (xs : List Content) (bs : List (List ℕ)) (got : List ℕ) (d : Decoder) (a : At d0 s main there i at (x ∷ rest) ps xs bs got d) (j : ℕ)
     → at < packet_start s.parts (j + 1) → packet_start s.parts (j + 1) ≤ at + length x.codestream → (packet_span s main j).last ≡ main + 1 + i
 last_is d0 s main there i at x rest ps xs bs got d a j low high =
@@ -107,7 +103,7 @@ own_fail there j last main i s [] is h k = tt
 own_fail there j last main i s (m ∷ ms) is h k =
     (elim h.0 [ inl high ↦ inl high | inr none ↦ inr (main + 1 + i, omega (arith, k.0), omega (arith, is), none) ], own_fail there j last main i s ms is h.1 k.1)
 
--- and those behind it
+-- and those after it
 pub after_own : (c : Parts) (ms later : List Mark) → AllByRecursion (IsResync c) (ms ++ later) → AllByRecursion (IsResync c) later
 after_own c [] later h = h
 after_own c (m ∷ ms) later h = after_own c ms later h.1
@@ -119,7 +115,7 @@ later_fail there j last main s codestream parts from [] few high right behind = 
 later_fail there j last main s codestream parts from (m ∷ ms) few high right behind =
     (inl (later_precinct s.parts codestream parts j from m few high right.0 behind.0), later_fail there j last main s codestream parts from ms few high right.1 behind.1)
 
--- a packet that ends in the Body isn't reached where something is missing behind each mark before it, and the Body's own mark is of a
+-- a packet that ends in the Body isn't reached where something is missing after each mark before it, and the Body's own mark is of a
 -- later precinct or the Body is missing
 pub none_reached : (d0 : Decoder) (s : Sent) (main : ℕ) (there : ℕ → Bool) (i at : ℕ) (x : Datagram) (rest : List Datagram) (ps : List Place) (xs : List Content) (bs : List (List ℕ)) (got : List ℕ) (d : Decoder) (a : At d0 s main there i at (x ∷ rest) ps xs bs got d)
     (codestream : List ℕ) (parts : ArePartsOf s.parts codestream) (j : ℕ) → Dead there main s (main + 1 + (i + 1)) a.earlier → j < length s.parts.packets → at < packet_start s.parts (j + 1) → packet_start s.parts (j + 1) ≤ at + length x.codestream

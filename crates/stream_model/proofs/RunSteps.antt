@@ -7,30 +7,28 @@ use Rattle.wire_model.specs.Datagram.{Datagram}
 use Rattle.codestream_model.specs.Values.{Head, Place}
 use Rattle.codestream_model.specs.Packet.{Content}
 use Rattle.codestream_model.specs.Codestream.{joined}
-use Rattle.stream_model.specs.Report.{Precinct}
 use Rattle.stream_model.specs.Stream.{Parts, ArePackets, ArePartsOf, Sent, Mark, mark_of, precinct_at}
-use Rattle.stream_model.specs.Decoder.{Current, Decoder, Settled, run_of, take_gap, settle}
-use Rattle.stream_model.specs.CommandLaws.{precincts_of}
-use Rattle.stream_model.specs.RunLaws.{passing, fed, given_before}
+use Rattle.stream_model.specs.Decoder.{Current, Decoder, Release, Settled, run_of, take_gap, settle}
+use Rattle.stream_model.specs.RunLaws.{passing, fed, given_before, current_of, releases_of}
 use Rattle.stream_model.proofs.CutPayloads.{all-append}
 use Rattle.stream_model.proofs.CutBodies.{all_imply}
 use Rattle.stream_model.proofs.RunRules.{state, Went, goes_on}
 use Rattle.stream_model.proofs.RunPlaces.{Here, as_many, next_here, gone_between}
-use Rattle.stream_model.proofs.RunReach.{point, passing-append, passing_none, precincts-append, precincts-length}
-use Rattle.stream_model.proofs.RunStates.{marks_from, own_body, current_of, test, Lost, Dead, Alive, At, none_reached, after_own}
+use Rattle.stream_model.proofs.RunReach.{point, passing-append, passing_none, releases-append, releases-length}
+use Rattle.stream_model.proofs.RunStates.{marks_from, own_body, test, Lost, Dead, Alive, At, none_reached, after_own}
 
--- what is known after a Body: so many packets have ended in it, and these precincts were given
-pub record Next (d0 : Decoder) (s : Sent) (main : ℕ) (there : ℕ → Bool) (i at : ℕ) (rest : List Datagram) (k : ℕ) (ps : List Place) (xs : List Content) (d : Decoder) (item : Option Datagram) : Type 0 where
+-- what is known after a Body: this many packets have ended in it, and these were released
+pub record Next (d0 : Decoder) (s : Sent) (main : ℕ) (there : ℕ → Bool) (i at : ℕ) (rest : List Datagram) (k : ℕ) (ps : List Place) (xs : List Content) (bs : List (List ℕ)) (d : Decoder) (item : Option Datagram) : Type 0 where
   pub left : List Place
   pub more : List Content
   pub packets : List (List ℕ)
   pub kept : List ℕ
   pub decoder : Decoder
-  pub given : List Precinct
+  pub given : List Release
   pub gone : ℕ
   pub known : At d0 s main there i at rest left more packets kept decoder
   pub count : length known.here.done ≡ k + gone
-  pub passes : passing (test there main s) k (precincts_of s.parts.head s.stamp ps xs) ≡ given ++ passing (test there main s) (k + gone) (precincts_of s.parts.head s.stamp left more)
+  pub passes : passing (test there main s) k (releases_of (current_of s) d0.heads ps xs bs) ≡ given ++ passing (test there main s) (k + gone) (releases_of (current_of s) d0.heads left more packets)
   pub feeds : (items : List (Option Datagram)) → fed d (item ∷ items) ≡ given_before given (fed decoder items)
 
 -- what is known before the next Body
@@ -60,22 +58,23 @@ next_at d0 s main there i at x rest ps xs bs got d a left more packets kept h ne
       refl,
     )
 
--- the bytes of the packets, and what is behind them
+-- the bytes of the packets, and what is after them
 pub tail_of : (c : Parts) (at : ℕ) (ps : List Place) (xs : List Content) (bs : List (List ℕ)) (got payload todo : List ℕ) → Here c at ps xs bs got (payload ++ todo) → (tail : List ℕ) × (joined bs ++ tail ≡ (got ++ payload) ++ todo)
 tail_of c at ps xs bs got payload todo h = elim h.bytes [
   | inl none ↦ ((got ++ payload) ++ todo, ap (λ l. joined l ++ ((got ++ payload) ++ todo)) none)
   | inr e ↦ (255 ∷ 217 ∷ [], e ∙ sym (append_assoc got payload todo))
 ]
 
--- the precincts that pass among those that are gone, and behind them
-pub split_passes : (t : ℕ → Bool) (k : ℕ) (h : Head) (stamp : ℕ) (ps gone left : List Place) (xs said more : List Content) → ps ≡ gone ++ left → xs ≡ said ++ more → length gone ≡ length said
-    → passing t k (precincts_of h stamp ps xs) ≡ passing t k (precincts_of h stamp gone said) ++ passing t (k + length gone) (precincts_of h stamp left more)
-split_passes t k h stamp ps gone left xs said more e f g =
-    ap (λ l. passing t k (precincts_of h stamp l xs)) e
-    ∙ (ap (λ l. passing t k (precincts_of h stamp (gone ++ left) l)) f
-    ∙ (ap (passing t k) (precincts-append h stamp gone left said more g)
-    ∙ (passing-append t k (precincts_of h stamp gone said) (precincts_of h stamp left more)
-    ∙ ap (λ n. passing t k (precincts_of h stamp gone said) ++ passing t (k + n) (precincts_of h stamp left more)) (precincts-length h stamp gone said g))))
+-- the releases that pass among those that are gone, and after them
+pub split_passes : (t : ℕ → Bool) (k : ℕ) (c : Current) (n : ℕ) (ps gone left : List Place) (xs said more : List Content) (bs whole rest : List (List ℕ)) → ps ≡ gone ++ left → xs ≡ said ++ more → bs ≡ whole ++ rest
+    → length gone ≡ length said → length gone ≡ length whole → passing t k (releases_of c n ps xs bs) ≡ passing t k (releases_of c n gone said whole) ++ passing t (k + length gone) (releases_of c n left more rest)
+split_passes t k c n ps gone left xs said more bs whole rest e f g same many =
+    ap (λ l. passing t k (releases_of c n l xs bs)) e
+    ∙ (ap (λ l. passing t k (releases_of c n (gone ++ left) l bs)) f
+    ∙ (ap (λ l. passing t k (releases_of c n (gone ++ left) (said ++ more) l)) g
+    ∙ (ap (passing t k) (releases-append c n gone left said more whole rest same many)
+    ∙ (passing-append t k (releases_of c n gone said whole) (releases_of c n left more rest)
+    ∙ ap (λ m. passing t k (releases_of c n gone said whole) ++ passing t (k + m) (releases_of c n left more rest)) (releases-length c n gone said whole same many)))))
 
 -- as many contents as precincts
 pub as_said : (h : Head) (ps : List Place) (xs : List Content) (bs : List (List ℕ)) → ArePackets h ps xs bs → length ps ≡ length xs
@@ -104,7 +103,7 @@ many_done c at ps xs bs got payload todo h d cur s e w =
 -- the packets that are gone, with what is known of the next Body
 abbrev pub the_next : (d0 : Decoder) (s : Sent) (main : ℕ) (there : ℕ → Bool) (i at : ℕ) (x : Datagram) (rest : List Datagram) (ps : List Place) (xs : List Content) (bs : List (List ℕ)) (got : List ℕ) (d : Decoder) (item : Option Datagram)
     (a : At d0 s main there i at (x ∷ rest) ps xs bs got d) → Type 0
-the_next d0 s main there i at x rest ps xs bs got d item a = Next d0 s main there (i + 1) (at + length x.codestream) rest (length a.here.done) ps xs d item
+the_next d0 s main there i at x rest ps xs bs got d item a = Next d0 s main there (i + 1) (at + length x.codestream) rest (length a.here.done) ps xs bs d item
 
 -- a Body that is missing: what ends in it isn't reached, and no run is left
 pub step_gap : (d0 : Decoder) (s : Sent) (main : ℕ) (there : ℕ → Bool) (i at : ℕ) (x : Datagram) (rest : List Datagram) (ps : List Place) (xs : List Content) (bs : List (List ℕ)) (got : List ℕ) (d : Decoder) (a : At d0 s main there i at (x ∷ rest) ps xs bs got d)
@@ -133,8 +132,9 @@ step_gap d0 s main there i at x rest ps xs bs got d a codestream parts none =
     none_reached d0 s main there i at x rest ps xs bs got d a codestream parts j was (omega (arith, few_gone c at ps xs bs got (x.codestream ++ todo) (got ++ x.codestream) a.here d0 cur r refl w, high)) b.0 b.1
     (all_imply (λ (m : Mark). m.body ≡ i) (λ m. (j < precinct_at c m.place) ⊎ (there (main + 1 + i) ≡ false)) mine (λ m e. inr none) (own_body i at x.payload))) in
     let same = as_said c.head w.gone w.said w.whole w.are_gone in
-    let passes = split_passes (test there main s) k c.head s.stamp ps w.gone w.left xs w.said w.more w.places w.content same in
-    let empty = passing_none (test there main s) k (precincts_of c.head s.stamp w.gone w.said) (λ j low high. missed j low (omega (arith, high, precincts-length c.head s.stamp w.gone w.said same))) in
+    let many = as_many c.head w.gone w.said w.whole w.are_gone in
+    let passes = split_passes (test there main s) k cur d0.heads ps w.gone w.left xs w.said w.more bs w.whole w.rest w.places w.content w.packets same many in
+    let empty = passing_none (test there main s) k (releases_of cur d0.heads w.gone w.said w.whole) (λ j low high. missed j low (omega (arith, high, releases-length cur d0.heads w.gone w.said w.whole same many))) in
     record {
       left = w.left;
       more = w.more;
@@ -145,6 +145,6 @@ step_gap d0 s main there i at x rest ps xs bs got d a codestream parts none =
       gone = length w.gone;
       known = known.0;
       count = ap length known.1 ∙ size;
-      passes = passes ∙ ap (λ l. l ++ passing (test there main s) (k + length w.gone) (precincts_of c.head s.stamp w.left w.more)) empty;
+      passes = passes ∙ ap (λ l. l ++ passing (test there main s) (k + length w.gone) (releases_of cur d0.heads w.left w.more w.rest)) empty;
       feeds = λ items. refl;
     }

@@ -20,14 +20,13 @@ use Rattle.codestream_model.proofs.Orders.{packet_order_is_computed, packet_orde
 use Rattle.codestream_model.proofs.StripLaws.{each_component_has_precincts}
 use Rattle.stream_model.proofs.Bases.{not_true}
 use Rattle.stream_model.specs.Stream.{Parts, ArePackets, ArePartsOf, Sent, IsMainPayload, Mark, IsResync, Carries}
-use Rattle.stream_model.specs.Decoder.{Current, Decoder, run_of, found_packet, Settled, settle, settled, take_gap, take_header}
+use Rattle.stream_model.specs.Decoder.{Current, Decoder, run_of, found_packet, Settled, settle, settled, one_more, take_gap, take_header}
 use Rattle.stream_model.specs.Receiver.{decoded}
-use Rattle.stream_model.specs.CommandLaws.{precincts_of}
-use Rattle.stream_model.specs.RunLaws.{fed, handed, given_before, passing, precincts_in}
+use Rattle.stream_model.specs.RunLaws.{fed, handed, given_before, passing, current_of, releases_of, releases_in}
 use Rattle.stream_model.proofs.CutStreams.{marks_placed}
 use Rattle.stream_model.proofs.RunRules.{state, IsUnfinished, settle_waits}
 use Rattle.stream_model.proofs.RunPlaces.{Here}
-use Rattle.stream_model.proofs.RunStates.{current_of, test, At}
+use Rattle.stream_model.proofs.RunStates.{test, At}
 use Rattle.stream_model.proofs.RunSteps.{the_next, step_gap}
 use Rattle.stream_model.proofs.RunHanded.{run_next, run_went, step_idle}
 use Rattle.stream_model.proofs.RunBegun.{nothing_yet, step_begin}
@@ -56,22 +55,23 @@ pub record Holds (d0 : Decoder) (current : Option Current) (d : Decoder) : Type 
   pub unsupported : d.unsupported ≡ d0.unsupported
   pub disagreed : d.disagreed ≡ d0.disagreed
   pub broken : d.broken ≡ d0.broken
+  pub heads : d.heads ≡ d0.heads
 
 -- so it is before each Body,
 holds_at : (d0 : Decoder) (s : Sent) (main : ℕ) (there : ℕ → Bool) (i at : ℕ) (rest : List Datagram) (ps : List Place) (xs : List Content) (bs : List (List ℕ)) (got : List ℕ) (d : Decoder) → At d0 s main there i at rest ps xs bs got d → Holds d0 (Some (current_of s)) d
 holds_at d0 s main there i at rest ps xs bs got d a =
     let P : Decoder → Type 0 = λ e. Holds d0 (Some (current_of s)) e in
     elim a.run [
-      | inl t ↦ subst P (sym t.1) (record { current_is = refl; unsupported = refl; disagreed = refl; broken = refl })
-      | inr t ↦ subst P (sym t.1) (record { current_is = refl; unsupported = refl; disagreed = refl; broken = refl })
+      | inl t ↦ subst P (sym t.1) (record { current_is = refl; unsupported = refl; disagreed = refl; broken = refl; heads = refl })
+      | inr t ↦ subst P (sym t.1) (record { current_is = refl; unsupported = refl; disagreed = refl; broken = refl; heads = refl })
     ]
 
--- and behind the last Body nothing is left
-nothing_left : (t : ℕ → Bool) (k : ℕ) (c : Parts) (at stamp : ℕ) (ps : List Place) (xs : List Content) (bs : List (List ℕ)) (got : List ℕ) → Here c at ps xs bs got [] → [] ≡ passing t k (precincts_of c.head stamp ps xs)
-nothing_left t k c at stamp [] xs bs got h = refl
-nothing_left t k c at stamp (p ∷ ps) [] bs got h = refl
-nothing_left t k c at stamp (p ∷ ps) (x ∷ xs) [] got h = absurd h.are
-nothing_left t k c at stamp (p ∷ ps) (x ∷ xs) (b ∷ bs) got h = elim h.bytes [
+-- and after the last Body nothing is left
+nothing_left : (t : ℕ → Bool) (k : ℕ) (c : Parts) (at n : ℕ) (cur : Current) (ps : List Place) (xs : List Content) (bs : List (List ℕ)) (got : List ℕ) → Here c at ps xs bs got [] → [] ≡ passing t k (releases_of cur n ps xs bs)
+nothing_left t k c at n cur [] xs bs got h = refl
+nothing_left t k c at n cur (p ∷ ps) [] bs got h = refl
+nothing_left t k c at n cur (p ∷ ps) (x ∷ xs) [] got h = absurd h.are
+nothing_left t k c at n cur (p ∷ ps) (x ∷ xs) (b ∷ bs) got h = elim h.bytes [
   | inl none ↦ absurd (omega (arith, ap length none))
   | inr e ↦ absurd (omega (arith, h.unfinished, ap length e, length-append got [], length-append (b ++ joined bs) (255 ∷ 217 ∷ []), length-append b (joined bs)))
 ]
@@ -79,9 +79,9 @@ nothing_left t k c at stamp (p ∷ ps) (x ∷ xs) (b ∷ bs) got h = elim h.byte
 -- the Bodies of a codestream whose Main is there
 pub bodies_fed : (d0 : Decoder) (s : Sent) (main : ℕ) (there : ℕ → Bool) (i at : ℕ) (rest : List Datagram) (ps : List Place) (xs : List Content) (bs : List (List ℕ)) (got : List ℕ) (d : Decoder) (a : At d0 s main there i at rest ps xs bs got d)
     (codestream : List ℕ) (parts : ArePartsOf s.parts codestream) → AllByRecursion (IsBodyOf s) rest → there main ≡ true
-    → ((fed d (handed there (main + 1 + i) rest)).precincts ≡ passing (test there main s) (length a.here.done) (precincts_of s.parts.head s.stamp ps xs)) × Holds d0 (Some (current_of s)) (fed d (handed there (main + 1 + i) rest)).decoder
+    → ((fed d (handed there (main + 1 + i) rest)).releases ≡ passing (test there main s) (length a.here.done) (releases_of (current_of s) d0.heads ps xs bs)) × Holds d0 (Some (current_of s)) (fed d (handed there (main + 1 + i) rest)).decoder
 bodies_fed d0 s main there i at [] ps xs bs got d a codestream parts each main_there =
-    (nothing_left (test there main s) (length a.here.done) s.parts at s.stamp ps xs bs got a.here, holds_at d0 s main there i at [] ps xs bs got d a)
+    (nothing_left (test there main s) (length a.here.done) s.parts at d0.heads (current_of s) ps xs bs got a.here, holds_at d0 s main there i at [] ps xs bs got d a)
 bodies_fed d0 s main there i at (x ∷ rest) ps xs bs got d a codestream parts each main_there =
     let item : Option Datagram = if there (main + 1 + i) then Some x else None in
     let n : the_next d0 s main there i at x rest ps xs bs got d item a = elim (either (there (main + 1 + i))) [
@@ -94,22 +94,22 @@ bodies_fed d0 s main there i at (x ∷ rest) ps xs bs got d a codestream parts e
     ] in
     let e : main + 1 + (i + 1) ≡ main + 1 + i + 1 = omega arith in
     let r = bodies_fed d0 s main there (i + 1) (at + length x.codestream) rest n.left n.more n.packets n.kept n.decoder n.known codestream parts each.1 main_there in
-    let P : ℕ → Type 0 = λ m. ((fed n.decoder (handed there m rest)).precincts ≡ passing (test there main s) (length n.known.here.done) (precincts_of s.parts.head s.stamp n.left n.more)) × Holds d0 (Some (current_of s)) (fed n.decoder (handed there m rest)).decoder in
+    let P : ℕ → Type 0 = λ m. ((fed n.decoder (handed there m rest)).releases ≡ passing (test there main s) (length n.known.here.done) (releases_of (current_of s) d0.heads n.left n.more n.packets)) × Holds d0 (Some (current_of s)) (fed n.decoder (handed there m rest)).decoder in
     let q = subst P e r in
     let f = n.feeds (handed there (main + 1 + i + 1) rest) in
     let H : Settled → Type 0 = λ y. Holds d0 (Some (current_of s)) y.decoder in (
-      ap (λ (y : Settled). y.precincts) f
-          ∙ (ap (λ l. n.given ++ l) (q.0 ∙ ap (λ m. passing (test there main s) m (precincts_of s.parts.head s.stamp n.left n.more)) n.count) ∙ sym n.passes),
+      ap (λ (y : Settled). y.releases) f
+          ∙ (ap (λ l. n.given ++ l) (q.0 ∙ ap (λ m. passing (test there main s) m (releases_of (current_of s) d0.heads n.left n.more n.packets)) n.count) ∙ sym n.passes),
       subst H (sym f) q.1,
     )
 
 -- fed in two parts
-pub fed-append : (d : Decoder) (xs ys : List (Option Datagram)) → fed d (xs ++ ys) ≡ given_before (fed d xs).precincts (fed (fed d xs).decoder ys)
+pub fed-append : (d : Decoder) (xs ys : List (Option Datagram)) → fed d (xs ++ ys) ≡ given_before (fed d xs).releases (fed (fed d xs).decoder ys)
 fed-append d [] ys = refl
 fed-append d (Some x ∷ xs) ys =
     let r = settled (decoded d x x.payload) in
-    ap (given_before r.precincts) (fed-append r.decoder xs ys)
-    ∙ ap (λ l. record { precincts = l; decoder = (fed (fed r.decoder xs).decoder ys).decoder }) (sym (append_assoc r.precincts (fed r.decoder xs).precincts (fed (fed r.decoder xs).decoder ys).precincts))
+    ap (given_before r.releases) (fed-append r.decoder xs ys)
+    ∙ ap (λ l. record { releases = l; decoder = (fed (fed r.decoder xs).decoder ys).decoder }) (sym (append_assoc r.releases (fed r.decoder xs).releases (fed (fed r.decoder xs).decoder ys).releases))
 fed-append d (None ∷ xs) ys = fed-append (take_gap d) xs ys
 
 -- handed on in two parts
@@ -137,7 +137,7 @@ some_place h head places is order =
     omega (arith, there.1)
 
 -- at the first packet nothing is there yet
-first_waits : (n : ℕ) (d : Decoder) (c : Current) (ps : List Place) → 1 ≤ length ps → settle (suc n) (state d c (Some ps) [] None) ≡ record { precincts = []; decoder = state d c (run_of ps) [] None }
+first_waits : (n : ℕ) (d : Decoder) (c : Current) (ps : List Place) → 1 ≤ length ps → settle (suc n) (state d c (Some ps) [] None) ≡ record { releases = []; decoder = state d c (run_of ps) [] None }
 unfolding found_packet
 first_waits n d c [] some = absurd (omega arith)
 first_waits n d c (p ∷ ps) some = settle_waits n (state d c (Some (p ∷ ps)) [] None) (state d c (Some (p ∷ ps)) [] None) refl
@@ -150,12 +150,16 @@ none_yet h [] (x ∷ xs) bs a = absurd a
 none_yet h (p ∷ ps) xs bs a = nothing_yet h p ps xs bs a
 
 -- a Main is decoded by its header
-main_by : (d : Decoder) (s : Sent) (h : PayloadFields) → IsMainPayload h → decoded d s.main h ≡ take_header d s.main.rtp.stamp (length s.main.codestream) (head_of s.main.codestream)
+main_by : (d : Decoder) (s : Sent) (h : PayloadFields) → IsMainPayload h → decoded d s.main h ≡ take_header d s.main.rtp.stamp s.main.codestream (head_of s.main.codestream)
 main_by d s (Main h) is = refl
 main_by d s (Body h) is = absurd is
 
+-- a decoder that has taken one more main header
+abbrev pub head_more : Decoder → Decoder
+head_more d = record d { heads = one_more d.heads }
+
 -- the Main begins the codestream
-main_taken : (d : Decoder) (s : Sent) (w : IsWhole s) → settled (decoded d s.main s.main.payload) ≡ record { precincts = []; decoder = state d (current_of s) (run_of s.parts.places) [] None }
+main_taken : (d : Decoder) (s : Sent) (w : IsWhole s) → settled (decoded d s.main s.main.payload) ≡ record { releases = []; decoder = state (head_more d) (current_of s) (run_of s.parts.places) [] None }
 main_taken d s w =
     let c = s.parts in
     let order : packet_order c.head ≡ c.places = packet_order_is_one c.head (packet_order c.head) c.places (packet_order_is_computed c.head (header_has_components c.head c.header w.parts.is_head).steps) w.parts.order in
@@ -163,9 +167,9 @@ main_taken d s w =
     let size : c.head.length ≡ length s.main.codestream = ap (λ (h : Head). h.length) w.parts.is_head.values ∙ sym (ap length w.carries.header) in
     let same : (c.head.length == length s.main.codestream) ≡ true = eq-eqb c.head.length (length s.main.codestream) size in
     let stamp : s.main.rtp.stamp ≡ s.stamp = w.carries.stamps.0 in
-    let taken : decoded d s.main s.main.payload ≡ state d (current_of s) (Some c.places) [] None =
-    main_by d s s.main.payload w.carries.main ∙ (ap (take_header d s.main.rtp.stamp (length s.main.codestream)) read ∙ rw (same, order, stamp) refl) in
-    ap settled taken ∙ first_waits 4 d (current_of s) c.places (some_place c.head c.header c.places w.parts.is_head w.parts.order)
+    let taken : decoded d s.main s.main.payload ≡ state (head_more d) (current_of s) (Some c.places) [] None =
+    main_by d s s.main.payload w.carries.main ∙ (ap (take_header d s.main.rtp.stamp s.main.codestream) read ∙ (rw (same, order, stamp) refl ∙ ap (λ l. state (head_more d) (record (current_of s) { header = l }) (Some c.places) [] None) w.carries.header)) in
+    ap settled taken ∙ first_waits 4 (head_more d) (current_of s) c.places (some_place c.head c.header c.places w.parts.is_head w.parts.order)
 
 -- what is known before the first Body
 first_at : (d : Decoder) (s : Sent) (main : ℕ) (there : ℕ → Bool) (w : IsWhole s) → there main ≡ true → (a : At d s main there 0 0 s.bodies s.parts.places s.parts.content s.parts.packets [] (state d (current_of s) (run_of s.parts.places) [] None)) × (length a.here.done ≡ 0)
@@ -203,17 +207,19 @@ first_at d s main there w main_there =
 
 -- a codestream whose Main is there
 pub with_main : (d : Decoder) (s : Sent) (main : ℕ) (there : ℕ → Bool) (w : IsWhole s) → there main ≡ true
-    → ((fed d (Some s.main ∷ handed there (main + 1) s.bodies)).precincts ≡ passing (test there main s) 0 (precincts_in s)) × Holds d (Some (current_of s)) (fed d (Some s.main ∷ handed there (main + 1) s.bodies)).decoder
+    → ((fed d (Some s.main ∷ handed there (main + 1) s.bodies)).releases ≡ passing (test there main s) 0 (releases_in (one_more d.heads) s))
+    × Holds (head_more d) (Some (current_of s)) (fed d (Some s.main ∷ handed there (main + 1) s.bodies)).decoder
 with_main d s main there w main_there =
-    let a = first_at d s main there w main_there in
+    let t = head_more d in
+    let a = first_at t s main there w main_there in
     let e : main + 1 + 0 ≡ main + 1 = omega arith in
-    let from = state d (current_of s) (run_of s.parts.places) [] None in
-    let r = bodies_fed d s main there 0 0 s.bodies s.parts.places s.parts.content s.parts.packets [] from a.0 w.codestream w.parts w.bodies main_there in
-    let P : ℕ → Type 0 = λ m. ((fed from (handed there m s.bodies)).precincts ≡ passing (test there main s) (length a.0.here.done) (precincts_in s)) × Holds d (Some (current_of s)) (fed from (handed there m s.bodies)).decoder in
+    let from = state t (current_of s) (run_of s.parts.places) [] None in
+    let r = bodies_fed t s main there 0 0 s.bodies s.parts.places s.parts.content s.parts.packets [] from a.0 w.codestream w.parts w.bodies main_there in
+    let P : ℕ → Type 0 = λ m. ((fed from (handed there m s.bodies)).releases ≡ passing (test there main s) (length a.0.here.done) (releases_in t.heads s)) × Holds t (Some (current_of s)) (fed from (handed there m s.bodies)).decoder in
     let q = subst P e r in
-    let all : fed d (Some s.main ∷ handed there (main + 1) s.bodies) ≡ fed from (handed there (main + 1) s.bodies) = ap (λ (y : Settled). given_before y.precincts (fed y.decoder (handed there (main + 1) s.bodies))) (main_taken d s w) in
-    let H : Settled → Type 0 = λ y. Holds d (Some (current_of s)) y.decoder in
-    (ap (λ (y : Settled). y.precincts) all ∙ (q.0 ∙ ap (λ m. passing (test there main s) m (precincts_in s)) a.1), subst H (sym all) q.1)
+    let all : fed d (Some s.main ∷ handed there (main + 1) s.bodies) ≡ fed from (handed there (main + 1) s.bodies) = ap (λ (y : Settled). given_before y.releases (fed y.decoder (handed there (main + 1) s.bodies))) (main_taken d s w) in
+    let H : Settled → Type 0 = λ y. Holds t (Some (current_of s)) y.decoder in
+    (ap (λ (y : Settled). y.releases) all ∙ (q.0 ∙ ap (λ m. passing (test there main s) m (releases_in t.heads s)) a.1), subst H (sym all) q.1)
 
 -- a decoder that waits without a run
 abbrev pub idle : Decoder → Option Current → Decoder
@@ -226,7 +232,7 @@ IsOther (Some c) stamp = c.stamp ≢ stamp
 
 -- drops a Body
 body_dropped : (d : Decoder) (current : Option Current) (s : Sent) (x : Datagram) → IsBodyOf s x → IsOther current s.stamp
-    → (settled (decoded (idle d current) x x.payload) ≡ record { precincts = []; decoder = idle d current }) ⊎ (settled (decoded (idle d current) x x.payload) ≡ record { precincts = []; decoder = idle d None })
+    → (settled (decoded (idle d current) x x.payload) ≡ record { releases = []; decoder = idle d current }) ⊎ (settled (decoded (idle d current) x x.payload) ≡ record { releases = []; decoder = idle d None })
 body_dropped d None s x b other = inl (ap (λ y. settled (decoded (idle d None) x y)) b.payload ∙ settle_waits 4 (idle d None) (idle d None) refl)
 body_dropped d (Some c) s x b other =
     let no : (c.stamp == x.rtp.stamp) ≡ false = not_true (c.stamp == x.rtp.stamp) (λ t. other (eqb-true c.stamp x.rtp.stamp t ∙ sym b.stamp)) in
@@ -235,20 +241,20 @@ body_dropped d (Some c) s x b other =
 
 -- so nothing is given of a codestream whose Main is missing
 pub lost_bodies : (d : Decoder) (current : Option Current) (s : Sent) (there : ℕ → Bool) (at : ℕ) (rest : List Datagram) → AllByRecursion (IsBodyOf s) rest → IsOther current s.stamp
-    → ((fed (idle d current) (handed there at rest)).precincts ≡ []) × (((fed (idle d current) (handed there at rest)).decoder ≡ idle d current) ⊎ ((fed (idle d current) (handed there at rest)).decoder ≡ idle d None))
+    → ((fed (idle d current) (handed there at rest)).releases ≡ []) × (((fed (idle d current) (handed there at rest)).decoder ≡ idle d current) ⊎ ((fed (idle d current) (handed there at rest)).decoder ≡ idle d None))
 lost_bodies d current s there at [] each other = (refl, inl refl)
 lost_bodies d current s there at (x ∷ rest) each other =
     let items = handed there (at + 1) rest in
-    let R : Settled → Type 0 = λ y. (y.precincts ≡ []) × ((y.decoder ≡ idle d current) ⊎ (y.decoder ≡ idle d None)) in
+    let R : Settled → Type 0 = λ y. (y.releases ≡ []) × ((y.decoder ≡ idle d current) ⊎ (y.decoder ≡ idle d None)) in
     let P : Bool → Type 0 = λ b. R (fed (idle d current) ((if b then Some x else None) ∷ items)) in
     elim (either (there at)) [
       | inr t ↦ subst P (sym t) (lost_bodies d current s there (at + 1) rest each.1 other)
       | inl t ↦ elim (body_dropped d current s x each.0 other) [
         | inl e ↦
-            let f = ap (λ (y : Settled). given_before y.precincts (fed y.decoder items)) e in
+            let f = ap (λ (y : Settled). given_before y.releases (fed y.decoder items)) e in
             subst P (sym t) (subst R (sym f) (lost_bodies d current s there (at + 1) rest each.1 other))
         | inr e ↦
-            let f = ap (λ (y : Settled). given_before y.precincts (fed y.decoder items)) e in
+            let f = ap (λ (y : Settled). given_before y.releases (fed y.decoder items)) e in
             let r = lost_bodies d None s there (at + 1) rest each.1 tt in
             let n : R (fed (idle d None) items) = (r.0, elim r.1 [ inl u ↦ inr u | inr u ↦ inr u ]) in
             subst P (sym t) (subst R (sym f) n)

@@ -3,7 +3,7 @@ use Rattle.std.proofs.Common.{◌≡◌, ◌<◌, ◌≤◌, ◌+◌, ◌==◌, 
 use Rattle.codestream_model.specs.Values.{Head, Place, Block}
 use Rattle.codestream_model.specs.Bytes.{IsBytes}
 use Rattle.codestream_model.proofs.SegmentBytes.{bytes-drop}
-use Rattle.stream_model.specs.Decoder.{Current, Mark, Decoder, Found, Whole, Part, Other, found_packet, Ruling, Releases, Changes, Waits, begin_at, begin_instead, mark_behind, run_of, release, drop_run, is_place, rule_without_run, rule_of_packet, rule_before_mark, rule_at_mark, rule_in_run, rule_of_run, rule, Settled, with_precinct, settle}
+use Rattle.stream_model.specs.Decoder.{Current, Mark, Decoder, Found, Whole, Part, Other, found_packet, Ruling, Releases, Changes, Waits, begin_at, begin_instead, mark_behind, run_of, release, drop_run, is_place, rule_without_run, rule_of_packet, rule_before_mark, rule_at_mark, rule_in_run, rule_of_run, rule, Settled, with_release, settle}
 use Rattle.stream_model.specs.DecoderLaws.{SettlesAs, SettledFollowsRules, SettledWaits}
 use Rattle.stream_model.proofs.Found.{packet_has_bytes}
 use Rattle.stream_model.proofs.PacketsFound.{found_is}
@@ -118,7 +118,7 @@ falls d b = falls_by d d.current refl b
 -- so it doesn't matter how many rules may be followed, where they are enough
 enough_by : (n m : ℕ) (d : Decoder) (r : Ruling) → rule d d.current ≡ r → Falls d r → weight d < suc n → weight d < suc m
     → ((x : Decoder) → IsBytes x.bytes → weight x < n → weight x < m → settle n x ≡ settle m x) → settle (suc n) d ≡ settle (suc m) d
-enough_by n m d (Releases x next) e f a b ih = settle_releases n d next x e ∙ (ap (with_precinct x) (ih next f.1 (omega (arith, f.0)) (omega (arith, f.0))) ∙ sym (settle_releases m d next x e))
+enough_by n m d (Releases x next) e f a b ih = settle_releases n d next x e ∙ (ap (with_release x) (ih next f.1 (omega (arith, f.0)) (omega (arith, f.0))) ∙ sym (settle_releases m d next x e))
 enough_by n m d (Changes next) e f a b ih = settle_changes n d next e ∙ (ih next f.1 (omega (arith, f.0)) (omega (arith, f.0)) ∙ sym (settle_changes m d next e))
 enough_by n m d (Waits next) e f a b ih = settle_waits n d next e ∙ sym (settle_waits m d next e)
 
@@ -145,7 +145,7 @@ settles_by d (Releases x next) e f =
     let a = light d in
     let b = light next in
     let z : length d.bytes + 5 ≡ suc n = omega arith in
-    ap (λ k. settle k d) z ∙ (settle_releases n d next x e ∙ ap (with_precinct x) (enough n (length next.bytes + 5) next f.1 (omega (arith, f.0, a)) (omega (arith, b))))
+    ap (λ k. settle k d) z ∙ (settle_releases n d next x e ∙ ap (with_release x) (enough n (length next.bytes + 5) next f.1 (omega (arith, f.0, a)) (omega (arith, b))))
 settles_by d (Changes next) e f =
     let n = length d.bytes + 4 in
     let a = light d in

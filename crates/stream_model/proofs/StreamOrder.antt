@@ -25,7 +25,7 @@ count_grows p q (x ∷ xs) h =
     let one : cond (p x) 1 0 + count_by p xs ≤ cond (q x) 1 0 + count_by q xs = count_by_one (p x) (q x) (count_by p xs) (count_by q xs) (h x) (count_grows p q xs h) in
     omega (arith, one, sum_by-cons (λ y. cond (p y) 1 0) x xs, sum_by-cons (λ y. cond (q y) 1 0) x xs)
 
--- a later byte stands in no earlier Body
+-- a later byte is in no earlier Body
 pub body_with_rises : (bodies : List Datagram) (x y : ℕ) → x ≤ y → body_with bodies x ≤ body_with bodies y
 body_with_rises bodies x y h =
     count_grows (λ j. nat_le (payload_start bodies (j + 1)) x) (λ j. nat_le (payload_start bodies (j + 1)) y) (range_with_len 0 (length bodies))

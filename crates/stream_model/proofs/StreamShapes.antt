@@ -1,4 +1,4 @@
--- Where bytes stand in a stream: within it, and in the Body that has them.
+-- Where bytes are in a stream: within it, and in the Body that has them.
 use Rattle.std.proofs.Common.{◌≡◌, ◌<◌, ◌≤◌, ◌⊎◌, ◌+◌, ◌-◌, ℕ, zero, suc, Bool, true, false, cond, List, [], ◌∷◌, map, length, take, drop, get_or, refl, sym, subst, ap, ◌∙◌, inl, inr, arith}
 use Rattle.std.specs.Prelude.{nat_le}
 use Rattle.std.specs.List.{AllByRecursion, flat_map, sum_by, count_by, prefix_len, range_with_len}
@@ -70,7 +70,7 @@ few_end (x ∷ bodies) place b within few pass (inr h) =
     let all : payload_start (x ∷ bodies) (length bodies + 1) ≡ sum_by (λ x. length x.codestream) (x ∷ bodies) = ap (λ k. payload_start (x ∷ bodies) k) n ∙ ap (sum_by (λ x. length x.codestream)) (take-length (x ∷ bodies)) in
     absurd (omega arith)
 
--- and the one behind them begins at or before it
+-- and the one after them begins at or before it
 begins_by : (bodies : List Datagram) (place b : ℕ) → ((j : ℕ) → j < b → ends_by bodies place j ≡ true) → payload_start bodies b ≤ place
 begins_by bodies place zero pass = omega arith
 begins_by bodies place (suc b) pass =

@@ -60,7 +60,7 @@ cut_is_left p i at c limit k q e same within =
           );
     }
 
--- where a codestream stands in a stream, its datagrams stand
+-- where a codestream is in a stream, its datagrams are
 main_here : (before after : List Sent) (s : Sent) → flat_map datagrams_of (before ++ s ∷ after) ≡ flat_map datagrams_of before ++ s.main ∷ (s.bodies ++ flat_map datagrams_of after)
 main_here before after s = flat_map-append datagrams_of before (s ∷ after)
 
@@ -78,7 +78,7 @@ main_kept : (limit : ℕ) (h : PayloadFields) → IsMainPayload h → is_within 
 main_kept limit (Main h) m = refl
 main_kept limit (Body h) m = absurd m
 
--- how a codestream stands in a stream
+-- how a codestream is in a stream
 record StandsThere (sent : List Sent) (datagrams : List (List ℕ)) (before after : List Sent) (s : Sent) (codestream : List ℕ) : Type 0 where
   split : sent ≡ before ++ s ∷ after
   are_datagrams : AllZip IsDatagram (flat_map datagrams_of sent) datagrams
@@ -219,7 +219,7 @@ sent_is p parts s h = let P : List Sent → Type 0 = λ l. Has l s in placed_is 
 pub cut_carries : (p : Plan) (parts : List Parts) (codestreams : List (List ℕ)) → CanBeSent p parts codestreams → Carry (sent_by p parts) codestreams (cut_of p parts)
 cut_carries p parts codestreams r = cut_is_stream p parts codestreams r.plan r.are_parts r.bytes r.fit r.few r.short
 
--- how a codestream of a cut stands in it
+-- how a codestream of a cut is in it
 record StandsInCut (p : Plan) (parts : List Parts) (i : ℕ) (s : Sent) : Type 0 where
   before : List Sent
   after : List Sent

@@ -8,7 +8,7 @@ use Rattle.std.proofs.lemmas.List.{length-map, length-append, append-nil, take_a
 use Rattle.wire_model.specs.Thinning.{is_kept, kept}
 use Rattle.wire_model.specs.Framing.{frame, framing, whole_frames}
 use Rattle.wire_model.proofs.FramingLaws.{whole_frames_of_framing}
-use Rattle.stream_model.specs.Commands.{counted, report_lines}
+use Rattle.stream_model.specs.Commands.{release_lines, counted, report_lines}
 use Rattle.wire_model.specs.Datagram.{Datagram, IsDatagram, datagram_of, is_well_formed}
 use Rattle.wire_model.proofs.DatagramLaws.{datagram_is_computed}
 use Rattle.wire_model.proofs.RtpLaws.{rtp_is_read_one_way}
@@ -146,7 +146,7 @@ thinned_is_reported p parts codestreams limit pick read r picks e =
     let frames : List (List ℕ) = kept limit (cut_of p parts) in
     let events : List ℕ = kept_positions limit (cut_of p parts) in
     let gives = gives_what_is_reached (sent_by p parts) codestreams (cut_of p parts) frames events pick (cut_carries p parts codestreams r) picks.window (cut_arrives p parts codestreams limit pick r picks) in
-    ap (λ l. lines (flushed (received pick l)).precincts ++ end_line (counts_of (flushed (received pick l)))) e
+    ap (λ l. release_lines (flushed (received pick l)).releases ++ end_line (counts_of (flushed (received pick l)))) e
     ∙ (ap (λ l. lines l ++ end_line (counts_of (flushed (received pick frames)))) gives.1
     ∙ ap (λ n. lines (reached_through p parts limit pick.window) ++ end_line n) (gives.2 ∙ thinned_is_counted limit pick.window (cut_of p parts) picks.window))
 

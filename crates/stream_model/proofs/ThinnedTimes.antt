@@ -25,7 +25,7 @@ or_step : (c d : Bool) → (c ≡ false → d ≡ true) → (c || d) ≡ true
 or_step true d h = refl
 or_step false d h = h refl
 
--- where a number passes, it stands in what is left of a range
+-- where a number passes, it is in what is left of a range
 other : (a i : ℕ) → (a ≡ i → false ≡ true) → (a == i) ≡ false
 other a i e = no_test a i (λ s. let t : false ≡ true = e s in cc)
 
@@ -86,7 +86,7 @@ kept_here limit [] x rest (b ∷ datagrams) a w = kept_one limit x b a.0 w
 kept_here limit (y ∷ front) x rest [] a w = absurd a
 kept_here limit (y ∷ front) x rest (b ∷ datagrams) a w = kept_here limit front x rest datagrams a.1 w
 
--- a position that is kept stands in the list
+-- a position that is kept is in the list
 pub kept_within : (limit : ℕ) (datagrams : List (List ℕ)) (i : ℕ) → is_kept limit (datagram_at datagrams i) ≡ true → i < length datagrams
 kept_within limit [] i h = absurd (cc)
 kept_within limit (b ∷ datagrams) zero h = omega arith

@@ -7,13 +7,13 @@ use Rattle.codestream_model.specs.Values.{Head, Place, Block}
 use Rattle.codestream_model.specs.Precincts.{grids}
 use Rattle.codestream_model.specs.Packet.{block_count, segment_bytes}
 use Rattle.codestream_model.specs.PacketHeaderReading.{HeaderReading, Done, Need, Bad, header_of}
-use Rattle.stream_model.specs.Decoder.{Decoder, Current, Mark, Found, Whole, Part, Other, found_segments, found_header, found_packet, Ruling, Releases, Changes, Waits, release, begin_instead, is_place, rule_without_run, rule_of_packet, rule_before_mark, rule_at_mark, rule_in_run, rule_of_run, rule, Settled, with_precinct, settle, settled, take_gap}
+use Rattle.stream_model.specs.Decoder.{Decoder, Current, Mark, Found, Whole, Part, Other, found_segments, found_header, found_packet, Ruling, Releases, Changes, Waits, release, begin_instead, is_place, rule_without_run, rule_of_packet, rule_before_mark, rule_at_mark, rule_in_run, rule_of_run, rule, Settled, with_release, settle, settled, take_gap}
 use Rattle.stream_model.specs.Window.{Hand, Gap, Nothing, next}
 use Rattle.stream_model.specs.Receiver.{Receiver, decoded, followed, drained}
 use Rattle.stream_model.specs.DrainLaws.{IsWhole, GivenAreWhole}
 use Rattle.stream_model.proofs.CutPayloads.{all-append}
 
--- a whole packet has so many bytes
+-- a whole packet has n bytes
 abbrev HasSize : List ℕ → Found → Type 0
 HasSize bytes (Whole blocks header size) = (size ≡ header + segment_bytes blocks) × (size ≤ length bytes)
 HasSize bytes Part = Unit {0}
@@ -90,26 +90,26 @@ rule_whole d None = tt
 rule_whole d (Some c) = run_whole d c d.run
 
 abbrev AllWhole : Settled → Type 0
-AllWhole s = AllByRecursion IsWhole s.precincts
+AllWhole s = AllByRecursion IsWhole s.releases
 
 settle_whole : (n : ℕ) (d : Decoder) → AllWhole (settle n d)
 unfolding settle
 settle_whole zero d = tt
 settle_whole (suc n) d = by (rule d d.current) (rule_whole d d.current) (λ x. settle_whole n x) where
   by : (r : Ruling) → GivesWhole r → ((x : Decoder) → AllWhole (settle n x)) → AllWhole (elim r [
-    | Releases x d ↦ with_precinct x (settle n d)
+    | Releases x d ↦ with_release x (settle n d)
     | Changes d ↦ settle n d
-    | Waits d ↦ record { precincts = []; decoder = d }
+    | Waits d ↦ record { releases = []; decoder = d }
   ])
   by (Releases x d) h ih = (h, ih d)
   by (Changes d) h ih = ih d
   by (Waits d) h ih = tt
 
-followed_whole : (r : Receiver) (d : Decoder) → AllByRecursion IsWhole r.precincts → AllByRecursion IsWhole (followed r d).precincts
-followed_whole r d h = all-append IsWhole r.precincts (settled d).precincts h (settle_whole _ d)
+followed_whole : (r : Receiver) (d : Decoder) → AllByRecursion IsWhole r.releases → AllByRecursion IsWhole (followed r d).releases
+followed_whole r d h = all-append IsWhole r.releases (settled d).releases h (settle_whole _ d)
 
 abbrev AreWhole : Receiver → Type 0
-AreWhole r = AllByRecursion IsWhole r.precincts
+AreWhole r = AllByRecursion IsWhole r.releases
 
 drained_whole : (n : ℕ) (r : Receiver) → AreWhole r → AreWhole (drained n r)
 unfolding drained

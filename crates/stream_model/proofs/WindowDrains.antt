@@ -14,7 +14,7 @@ use Rattle.stream_model.proofs.CutBodies.{all_imply}
 use Rattle.stream_model.proofs.RunStream.{fed-append}
 use Rattle.stream_model.proofs.WindowSteps.{mem, window_at, others, mem_others, fewer_others, next_hand, next_none, next_gap, gap_of, gap_most, gap_free, gap_some, gap_ends}
 
--- what is handed on of so many positions from one on
+-- what is handed on of n positions from one on
 abbrev pub items : (ℕ → Bool) → (ℕ → Datagram) → ℕ → ℕ → List (Option Datagram)
 items there dg p zero = []
 items there dg p (suc n) = (if there p then Some (dg p) else None) ∷ items there dg (p + 1) n
@@ -45,19 +45,19 @@ one_gap d there dg p (suc (suc n)) rest h some =
 
 -- a receiver whose decoder was fed these items
 abbrev pub fed_on : Receiver → List (Option Datagram) → Receiver
-fed_on r xs = record r { decoder = (fed r.decoder xs).decoder; precincts = r.precincts ++ (fed r.decoder xs).precincts }
+fed_on r xs = record r { decoder = (fed r.decoder xs).decoder; releases = r.releases ++ (fed r.decoder xs).releases }
 
 -- in two parts
 pub fed_on-append : (r : Receiver) (xs ys : List (Option Datagram)) → fed_on r (xs ++ ys) ≡ fed_on (fed_on r xs) ys
 fed_on-append r xs ys =
-    ap (λ s. record r { decoder = s.decoder; precincts = r.precincts ++ s.precincts }) (fed-append r.decoder xs ys)
-    ∙ ap (λ l. record r { decoder = (fed (fed r.decoder xs).decoder ys).decoder; precincts = l }) (sym (append_assoc r.precincts (fed r.decoder xs).precincts (fed (fed r.decoder xs).decoder ys).precincts))
+    ap (λ s. record r { decoder = s.decoder; releases = r.releases ++ s.releases }) (fed-append r.decoder xs ys)
+    ∙ ap (λ l. record r { decoder = (fed (fed r.decoder xs).decoder ys).decoder; releases = l }) (sym (append_assoc r.releases (fed r.decoder xs).releases (fed (fed r.decoder xs).decoder ys).releases))
 
 -- a datagram is decoded first
 pub fed_on_hand : (r : Receiver) (x : Datagram) (xs : List (Option Datagram)) → fed_on r (Some x ∷ xs) ≡ fed_on (followed r (decoded r.decoder x x.payload)) xs
 fed_on_hand r x xs =
     let s = settled (decoded r.decoder x x.payload) in
-    ap (λ l. record r { decoder = (fed s.decoder xs).decoder; precincts = l }) (sym (append_assoc r.precincts s.precincts (fed s.decoder xs).precincts))
+    ap (λ l. record r { decoder = (fed s.decoder xs).decoder; releases = l }) (sym (append_assoc r.releases s.releases (fed s.decoder xs).releases))
 
 -- one step of the draining
 pub drained_hand : (m : ℕ) (r : Receiver) (x : Datagram) (w : Window Datagram) → next r.window r.window.base ≡ Hand x w → drained (suc m) r ≡ drained m (followed (record r { window = w }) (decoded r.decoder x x.payload))
@@ -76,7 +76,7 @@ drained_none zero r e = refl
 drained_none (suc m) r e = rw (e, drained) refl
 
 -- From the position p on, u positions of which are due, everything was handed on up to the position q: all that was due, and what
--- was held behind it without a break. What is left is held behind q.
+-- was held after it without a break. What is left is held after q.
 pub record Ran (number : ℕ) (dg : ℕ → Datagram) (r : Receiver) (p u : ℕ) (hs : List ℕ) (end : ℕ) (result : Receiver) : Type 0 where
   pub q : ℕ
   pub left : List ℕ
@@ -145,7 +145,7 @@ ran_gap number dg r p u g hs end result some few free n =
       stop = n.stop;
       same = n.same;
       above = n.above;
-      is = n.is ∙ sym (ap (fed_on from) list ∙ ap (λ (s : Settled). record from { decoder = s.decoder; precincts = r.precincts ++ s.precincts }) gap);
+      is = n.is ∙ sym (ap (fed_on from) list ∙ ap (λ (s : Settled). record from { decoder = s.decoder; releases = r.releases ++ s.releases }) gap);
     }
 
 -- what holds of all holds of each
@@ -161,7 +161,7 @@ pub or_false : (b c : Bool) → (b || c) ≡ false → (b ≡ false) × (c ≡ f
 or_false true c e = absurd (cc)
 or_false false c e = (refl, e)
 
--- where a stretch isn't held all are behind it
+-- where a stretch isn't held all are after it
 all_far : (p g end : ℕ) (hs : List ℕ) → ((j : ℕ) → p ≤ j → j < p + g → mem hs j ≡ false) → AllByRecursion (λ i. (p ≤ i) × (i < end)) hs → AllByRecursion (λ i. (p + g ≤ i) × (i < end)) hs
 all_far p g end [] free all = tt
 all_far p g end (i ∷ hs) free all =
@@ -186,7 +186,7 @@ ran_none n number dg r p hs end all within is none e =
       stop = none;
       same = λ i low. refl;
       above = all;
-      is = drained_none n r e ∙ (ap (λ w. record r { window = w }) is ∙ (sym (ap (λ l. record from { precincts = l }) (append-nil r.precincts)) ∙ sym (ap (λ k. fed_on from (items (mem hs) dg p k)) z)));
+      is = drained_none n r e ∙ (ap (λ w. record r { window = w }) is ∙ (sym (ap (λ l. record from { releases = l }) (append-nil r.releases)) ∙ sym (ap (λ k. fed_on from (items (mem hs) dg p k)) z)));
     }
 
 -- the draining

@@ -21,7 +21,7 @@ held_at number dg i = record { number = num number i; item = dg i }
 abbrev pub mem : List ℕ → ℕ → Bool
 mem hs i = list_any (λ h. h == i) hs
 
--- the window whose next position is this one, with so many that are due, and with these that are held
+-- the window whose next position is this one, with the number that are due, and with these that are held
 abbrev pub window_at : ℕ → (ℕ → Datagram) → ℕ → ℕ → List ℕ → Window Datagram
 window_at number dg p u hs = record { base = Some (num number p); due = u; held = map (held_at number dg) hs }
 
@@ -40,7 +40,7 @@ num_test number i p a b = elim (eqb_tells i p) [
 pub ahead_is : (number p i : ℕ) → p ≤ i → i < 8388608 → ahead (num number p) (num number i) ≡ i - p
 ahead_is number p i low high = omega arith
 
--- and how far one behind seems to be
+-- and how far one after seems to be
 pub ahead_behind : (number p i : ℕ) → i < p → p < 8388608 → 8388608 ≤ ahead (num number p) (num number i)
 ahead_behind number p i low high = omega arith
 

@@ -11,7 +11,7 @@ use Rattle.stream_model.specs.EndCounts.{end_counts}
 pub five_in_order : positions_in_time (0 ∷ 1 ∷ 2 ∷ 3 ∷ 4 ∷ []) 16 ≡ 0 ∷ 1 ∷ 2 ∷ 3 ∷ 4 ∷ []
 five_in_order = refl
 
--- and the base is behind them
+-- and the base is after them
 pub base_of_five : base (0 ∷ 1 ∷ 2 ∷ 3 ∷ 4 ∷ []) 16 ≡ 5
 base_of_five = refl
 
@@ -43,19 +43,19 @@ without_the_first = refl
 pub with_a_repeat : positions_in_time (0 ∷ 2 ∷ 1 ∷ 1 ∷ 3 ∷ 4 ∷ []) 16 ≡ 0 ∷ 1 ∷ 2 ∷ 3 ∷ 4 ∷ []
 with_a_repeat = refl
 
--- in a window of two the third datagram is late behind the fifth, and the fourth is in time
+-- in a window of two the third datagram is late after the fifth, and the fourth is in time
 pub in_a_small_window : positions_in_time (0 ∷ 1 ∷ 4 ∷ 2 ∷ 3 ∷ []) 2 ≡ 0 ∷ 1 ∷ 3 ∷ 4 ∷ []
 in_a_small_window = refl
 
--- the fifth passes the third, so the base stands at the fourth,
+-- the fifth passes the third, so the base is at the fourth,
 pub base_behind_a_late_one : base (0 ∷ 1 ∷ 4 ∷ []) 2 ≡ 3
 base_behind_a_late_one = refl
 
--- and behind the fifth once the fourth has come
+-- and after the fifth once the fourth has come
 pub base_in_a_small_window : base (0 ∷ 1 ∷ 4 ∷ 2 ∷ 3 ∷ []) 2 ≡ 5
 base_in_a_small_window = refl
 
--- what stands below the first arrival is never in time
+-- what is below the first arrival is never in time
 pub below_the_first : positions_in_time (1 ∷ 0 ∷ 2 ∷ 3 ∷ 4 ∷ []) 16 ≡ 1 ∷ 2 ∷ 3 ∷ 4 ∷ []
 below_the_first = refl
 

@@ -12,7 +12,7 @@ use Rattle.stream_model.specs.Stream.{Parts, datagrams_of, extended_number}
 use Rattle.stream_model.specs.Cut.{Plan, Piece, Known, known_of, datagrams_by, sent_by, datagram_bytes}
 use Rattle.stream_model.proofs.WorkedStreams.{parts_of_one, sent_of_one, parts_of_three, sent_of_three}
 
--- datagrams of at most so many bytes, with payload type 96, source 1, the first number and the first stamp 0 and stamps 3,600 apart
+-- datagrams of at most n bytes, with payload type 96, source 1, the first number and the first stamp 0 and stamps 3,600 apart
 abbrev pub plan_of : ℕ → Bool → Plan
 plan_of mtu split = record { mtu = mtu; split = split; kind = 96; source = 1; number = 0; stamp = 0; step = 3600 }
 
@@ -66,7 +66,7 @@ pub room_inside_eoc : map outline (datagrams_by (plan_of 327 false) (known_of pa
 unfolding sum_below main_header_of_three
 room_inside_eoc = refl
 
--- and where it ends behind EOC, one payload has all
+-- and where it ends after EOC, one payload has all
 pub room_for_all : map outline (datagrams_by (plan_of 328 false) (known_of parts_of_three ∷ [])) ≡ (90, false, 0, false) ∷ (308, true, 7, true) ∷ []
 unfolding sum_below main_header_of_three
 room_for_all = refl

@@ -4,7 +4,7 @@ use Rattle.std.specs.List.{range_with_len}
 use Rattle.std.proofs.Common.{refl}
 use Rattle.stream_model.specs.Reached.{Carried, StreamPrecinct, due, due_at_end}
 
--- Three packets of 102 bytes behind a Main at this position, and EOC, in Bodies of 90, 90, 90 and 38 bytes: each of the first
+-- Three packets of 102 bytes after a Main at this position, and EOC, in Bodies of 90, 90, 90 and 38 bytes: each of the first
 -- three has the first byte of one packet.
 abbrev pub three_packets : ℕ → ℕ → Carried
 three_packets stamp main = record {
@@ -74,7 +74,7 @@ second_alone = refl
 pub due_early : due (0 ∷ 1 ∷ 2 ∷ []) 16 one_codestream ≡ of_stamp 0 0 ∷ []
 due_early = refl
 
--- and behind a gap only once the window has passed it, or at the end
+-- and after a gap only once the window has passed it, or at the end
 pub due_behind_a_gap : due (0 ∷ 2 ∷ 3 ∷ 4 ∷ []) 16 one_codestream ≡ []
 due_behind_a_gap = refl
 

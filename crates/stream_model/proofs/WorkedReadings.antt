@@ -1,4 +1,4 @@
--- Corners of what is read of frames: two main headers of one stamp, and a run that needs the Body behind its Main.
+-- Corners of what is read of frames: two main headers of one stamp, and a run that needs the Body after its Main.
 use Rattle.std.specs.Prelude.{◌≡◌, ℕ, List, [], ◌∷◌, ◌++◌, map, refl, take, drop}
 use Rattle.wire_model.proofs.Captures.{main_of_b, first_body_of_b, second_body_of_b, third_body_of_b, last_body_of_b, codestream_of_b, main_header, main_header_of_three}
 use Rattle.stream_model.specs.Receiver.{take_frames, drained, received, flushed}
@@ -21,13 +21,13 @@ header_of_two_components = take 5 main_header_of_three ++ (44 ∷ []) ++ take 35
 abbrev pub main_of_two_components : List ℕ
 main_of_two_components = take 20 main_of_b ++ header_of_two_components
 
--- a Body with this number and no mark, in which three empty packets stand
+-- a Body with this number and no mark, which has three empty packets
 abbrev pub three_empty : ℕ → List ℕ
 three_empty number = 128 ∷ 96 ∷ 0 ∷ number ∷ 0 ∷ 0 ∷ 0 ∷ 0 ∷ 0 ∷ 0 ∷ 0 ∷ 1 ∷ 7 ∷ 0 ∷ 0 ∷ 0 ∷ 0 ∷ 0 ∷ 0 ∷ 0 ∷ 0 ∷ 0 ∷ 0 ∷ []
 
 -- the components, the numbers and the PIDs of what is given
 abbrev pub places_at_end : List (List ℕ) → List (List ℕ)
-places_at_end frames = map (λ x. x.place.c ∷ x.place.k ∷ x.pid ∷ []) (flushed (received (any_of 16) frames)).precincts
+places_at_end frames = map (λ x. x.precinct.place.c ∷ x.precinct.place.k ∷ x.precinct.pid ∷ []) (flushed (received (any_of 16) frames)).releases
 
 -- by the first header the second precinct of the component has PID 1
 pub by_the_first_header : places_at_end (main_of_b ∷ three_empty 1 ∷ []) ≡ ((0 ∷ 0 ∷ 0 ∷ []) ∷ (0 ∷ 1 ∷ 1 ∷ []) ∷ (0 ∷ 2 ∷ 2 ∷ []) ∷ [])
@@ -55,7 +55,7 @@ pub not_behind_the_main : pids_at_end 16 (main_of_b ∷ three_empty 2 ∷ []) �
 unfolding main_of_b first_body_of_b second_body_of_b third_body_of_b last_body_of_b codestream_of_b main_header main_header_of_three take_frames drained settle found_packet from_place number_bits number_of carried_after sound_after bytes_of_bits read_tile read_main head_of read_label read_passes read_lblock read_number read_block known_label read_inclusion read_planes read_seats read_grids read_bits header_of sum_below placed sorted siz_tests cap_tests cod_tests tile_tests halvings levels_from segment_tests skipped_tests first_frames
 not_behind_the_main = refl
 
--- A mark with PID 1 is read by the header in force: that of the other header, which comes behind it, names another precinct.
+-- A mark with PID 1 is read by the header in force: that of the other header, which comes after it, names another precinct.
 pub a_mark_by_the_header_in_force : (places_at_end (main_of_b ∷ marked_body 0 (0 ∷ 0 ∷ 0 ∷ []) ∷ renumbered 0 0 2 main_of_two_components ∷ []) ≡ ((0 ∷ 1 ∷ 1 ∷ []) ∷ (0 ∷ 2 ∷ 2 ∷ []) ∷ []))
     × (counts_at_end 16 (main_of_b ∷ marked_body 0 (0 ∷ 0 ∷ 0 ∷ []) ∷ renumbered 0 0 2 main_of_two_components ∷ []) ≡ counted 3 0 0 0 1 0)
 unfolding main_of_b first_body_of_b second_body_of_b third_body_of_b last_body_of_b codestream_of_b main_header main_header_of_three take_frames drained settle found_packet from_place number_bits number_of carried_after sound_after bytes_of_bits read_tile read_main head_of read_label read_passes read_lblock read_number read_block known_label read_inclusion read_planes read_seats read_grids read_bits header_of sum_below placed sorted siz_tests cap_tests cod_tests tile_tests halvings levels_from segment_tests skipped_tests first_frames

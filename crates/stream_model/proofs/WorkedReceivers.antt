@@ -19,7 +19,7 @@ any_of size = record { kind = 96; source = None; window = size }
 
 -- the numbers of the precincts that a receiver has given at the end
 abbrev pub pids_at_end : ℕ → List (List ℕ) → List ℕ
-pids_at_end size frames = map (λ x. x.pid) (flushed (received (any_of size) frames)).precincts
+pids_at_end size frames = map (λ x. x.precinct.pid) (flushed (received (any_of size) frames)).releases
 
 -- what it has counted then
 abbrev pub counts_at_end : ℕ → List (List ℕ) → Counts
@@ -103,14 +103,14 @@ unfolding main_of_b first_body_of_b second_body_of_b third_body_of_b last_body_o
 a_picture_without_its_main = (refl, refl)
 
 -- .. and where the first one's Main and first Body are lost, the second is given alone, with its stamp
-pub the_second_picture_alone : map (λ x. x.stamp) (flushed (received (any_of 16) (second_body_of_b ∷ third_body_of_b ∷ last_body_of_b ∷ renumbered 0 0 5 (restamped main_of_b) ∷ second_picture))).precincts ≡ (3600 ∷ 3600 ∷ 3600 ∷ [])
+pub the_second_picture_alone : map (λ x. x.precinct.stamp) (flushed (received (any_of 16) (second_body_of_b ∷ third_body_of_b ∷ last_body_of_b ∷ renumbered 0 0 5 (restamped main_of_b) ∷ second_picture))).releases ≡ (3600 ∷ 3600 ∷ 3600 ∷ [])
 unfolding main_of_b first_body_of_b second_body_of_b third_body_of_b last_body_of_b codestream_of_b main_header main_header_of_three take_frames drained settle found_packet from_place number_bits number_of carried_after sound_after bytes_of_bits read_tile read_main head_of read_label read_passes read_lblock read_number read_block known_label read_inclusion read_planes read_seats read_grids read_bits header_of sum_below placed sorted siz_tests cap_tests cod_tests tile_tests halvings levels_from segment_tests skipped_tests first_frames
 the_second_picture_alone = refl
 
 -- a mark that disagrees with the run is followed: POS of the second Body is 13 where 12 is right
 pub a_forged_mark_is_followed : (pids_at_end 16 (main_of_b ∷ first_body_of_b ∷ (take 16 second_body_of_b ++ (0 ∷ 208 ∷ []) ++ drop 18 second_body_of_b) ∷ third_body_of_b ∷ last_body_of_b ∷ []) ≡ (0 ∷ 1 ∷ 2 ∷ 2 ∷ []))
     × (counts_at_end 16 (main_of_b ∷ first_body_of_b ∷ (take 16 second_body_of_b ++ (0 ∷ 208 ∷ []) ++ drop 18 second_body_of_b) ∷ third_body_of_b ∷ last_body_of_b ∷ []) ≡ counted 5 0 0 0 1 0)
-    × (map (λ x. length x.blocks) (flushed (received (any_of 16) (main_of_b ∷ first_body_of_b ∷ (take 16 second_body_of_b ++ (0 ∷ 208 ∷ []) ++ drop 18 second_body_of_b) ∷ third_body_of_b ∷ last_body_of_b ∷ []))).precincts ≡ (1 ∷ 0 ∷ 0 ∷ 1 ∷ []))
+    × (map (λ x. length x.precinct.blocks) (flushed (received (any_of 16) (main_of_b ∷ first_body_of_b ∷ (take 16 second_body_of_b ++ (0 ∷ 208 ∷ []) ++ drop 18 second_body_of_b) ∷ third_body_of_b ∷ last_body_of_b ∷ []))).releases ≡ (1 ∷ 0 ∷ 0 ∷ 1 ∷ []))
 unfolding main_of_b first_body_of_b second_body_of_b third_body_of_b last_body_of_b codestream_of_b main_header main_header_of_three take_frames drained settle found_packet from_place number_bits number_of carried_after sound_after bytes_of_bits read_tile read_main head_of read_label read_passes read_lblock read_number read_block known_label read_inclusion read_planes read_seats read_grids read_bits header_of sum_below placed sorted siz_tests cap_tests cod_tests tile_tests halvings levels_from segment_tests skipped_tests first_frames
 a_forged_mark_is_followed = (refl, refl, refl)
 
@@ -118,7 +118,7 @@ a_forged_mark_is_followed = (refl, refl, refl)
 abbrev pub marked_body : ℕ → List ℕ → List ℕ
 marked_body pos bytes = 128 ∷ 96 ∷ 0 ∷ 1 ∷ 0 ∷ 0 ∷ 0 ∷ 0 ∷ 0 ∷ 0 ∷ 0 ∷ 1 ∷ 7 ∷ 128 ∷ 0 ∷ 0 ∷ 0 ∷ (pos * 16) ∷ 0 ∷ 1 ∷ bytes
 
--- what is refused as a packet drops the run, also where a mark stands inside it; at the mark it is refused again
+-- what is refused as a packet drops the run, also where a mark is inside it; at the mark it is refused again
 pub refused_before_a_mark : counts_at_end 16 (main_of_b ∷ marked_body 1 (239 ∷ 255 ∷ 128 ∷ 0 ∷ 0 ∷ []) ∷ []) ≡ counted 2 0 0 0 0 2
 unfolding main_of_b first_body_of_b second_body_of_b third_body_of_b last_body_of_b codestream_of_b main_header main_header_of_three take_frames drained settle found_packet from_place number_bits number_of carried_after sound_after bytes_of_bits read_tile read_main head_of read_label read_passes read_lblock read_number read_block known_label read_inclusion read_planes read_seats read_grids read_bits header_of sum_below placed sorted siz_tests cap_tests cod_tests tile_tests halvings levels_from segment_tests skipped_tests first_frames
 refused_before_a_mark = refl
@@ -133,7 +133,7 @@ pub broken_before_a_mark : (pids_at_end 16 (main_of_b ∷ marked_body 1 (238 ∷
 unfolding main_of_b first_body_of_b second_body_of_b third_body_of_b last_body_of_b codestream_of_b main_header main_header_of_three take_frames drained settle found_packet from_place number_bits number_of carried_after sound_after bytes_of_bits read_tile read_main head_of read_label read_passes read_lblock read_number read_block known_label read_inclusion read_planes read_seats read_grids read_bits header_of sum_below placed sorted siz_tests cap_tests cod_tests tile_tests halvings levels_from segment_tests skipped_tests first_frames
 broken_before_a_mark = (refl, refl)
 
--- a mark behind the last precinct begins a run anew, and nothing disagrees
+-- a mark after the last precinct begins a run anew, and nothing disagrees
 pub a_mark_behind_the_last : (pids_at_end 16 (main_of_b ∷ marked_body 5 (0 ∷ 0 ∷ 0 ∷ 255 ∷ 217 ∷ 0 ∷ 0 ∷ []) ∷ []) ≡ (0 ∷ 1 ∷ 2 ∷ 1 ∷ 2 ∷ [])) × (counts_at_end 16 (main_of_b ∷ marked_body 5 (0 ∷ 0 ∷ 0 ∷ 255 ∷ 217 ∷ 0 ∷ 0 ∷ []) ∷ []) ≡ counted 2 0 0 0 0 0)
 unfolding main_of_b first_body_of_b second_body_of_b third_body_of_b last_body_of_b codestream_of_b main_header main_header_of_three take_frames drained settle found_packet from_place number_bits number_of carried_after sound_after bytes_of_bits read_tile read_main head_of read_label read_passes read_lblock read_number read_block known_label read_inclusion read_planes read_seats read_grids read_bits header_of sum_below placed sorted siz_tests cap_tests cod_tests tile_tests halvings levels_from segment_tests skipped_tests first_frames
 a_mark_behind_the_last = (refl, refl)

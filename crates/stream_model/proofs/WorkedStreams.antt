@@ -33,7 +33,7 @@ sent_of_one = record {
   bodies = body_of_one ∷ [];
 }
 
--- its packet stands in the Body
+-- its packet is in the Body
 pub carried_of_one : carried (sent_of_one ∷ []) ≡ record {
   stamp = 0;
   main = 0;
@@ -78,7 +78,7 @@ sent_of_three stamp number = record {
       ∷ [];
 }
 
--- the first packet stands in the first and the second Body, and so on; each of the first three has a resync point
+-- the first packet is in the first and the second Body, and so on; each of the first three has a resync point
 pub carried_of_three : carried (sent_of_three 0 0 ∷ []) ≡ three_packets 0 0 ∷ []
 unfolding codestream_of_b main_header_of_three
 carried_of_three = refl

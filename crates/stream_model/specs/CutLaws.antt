@@ -6,25 +6,25 @@ use Rattle.codestream_model.specs.Codestream.{joined}
 use Rattle.stream_model.specs.Stream.{Parts, ArePartsOf, datagrams_of}
 use Rattle.stream_model.specs.Cut.{Plan, room, sent_by, datagram_bytes, Closed}
 
--- all bytes fix some datagrams, or none
+-- Any bytes fix some datagrams, or none.
 abbrev pub BytesFixDatagrams : Type 0
 BytesFixDatagrams = (p : Plan) (bytes : List ℕ) → IsBytes bytes → (closed : List (List ℕ)) × Closed p bytes closed
 
--- what is fixed stays fixed: more bytes only add datagrams behind; so bytes fix one list of datagrams
+-- What is fixed stays fixed: more bytes only add datagrams at the end; so bytes fix one list of datagrams.
 abbrev pub ClosedGrows : Type 0
 ClosedGrows =
     (p : Plan) (bytes more : List ℕ) (closed later : List (List ℕ)) → 1 ≤ room p → Closed p bytes closed → Closed p (bytes ++ more) later
     → (added : List (List ℕ)) × (later ≡ closed ++ added)
 
--- an input of whole codestreams fixes their cut, where their main headers have room in a datagram and the datagrams are fewer
--- than 2^23
+-- An input of whole codestreams fixes their cut, where their main headers have room in a datagram and the datagrams are
+-- fewer than 2^23.
 abbrev pub ClosedIsCut : Type 0
 ClosedIsCut =
     (p : Plan) (parts : List Parts) (codestreams : List (List ℕ)) → AllZip (λ c codestream. ArePartsOf c codestream) parts codestreams
     → AllByRecursion (λ c. length c.header ≤ room p) parts → length codestreams ≤ 65536 → length (flat_map datagrams_of (sent_by p parts)) < 2 ^ 23
     → Closed p (joined codestreams) (map datagram_bytes (flat_map datagrams_of (sent_by p parts)))
 
--- so what the front of such an input fixes is a front of the cut, however the input goes on
+-- What a prefix of such an input fixes is a prefix of the cut, however the input goes on.
 abbrev pub ClosedIsFrontOfCut : Type 0
 ClosedIsFrontOfCut =
     (p : Plan) (bytes more : List ℕ) (closed : List (List ℕ)) (parts : List Parts) (codestreams : List (List ℕ)) → 1 ≤ room p → Closed p bytes closed

@@ -5,8 +5,7 @@ use Rattle.std.specs.List.{AllByRecursion}
 use Rattle.wire_model.specs.Datagram.{Datagram, datagram_of, is_well_formed}
 use Rattle.stream_model.specs.Stream.{extended_number}
 use Rattle.codestream_model.specs.Packet.{segment_bytes}
-use Rattle.stream_model.specs.Report.{Precinct}
-use Rattle.stream_model.specs.Decoder.{take_gap}
+use Rattle.stream_model.specs.Decoder.{Release, take_gap}
 use Rattle.stream_model.specs.Window.{Window, Held, ahead, is_held, offer, hold, base_with, make_due, Offer, Behind, Again, Drain, Kept, Next, Hand, Gap, Nothing, next}
 use Rattle.stream_model.specs.Receiver.{Pick, Receiver, decoded, followed, drain, keep, is_source, take_frame}
 
@@ -95,12 +94,12 @@ DrainedTakesFrame =
     × (offer_of pick (drain (made_due r frame k)) frame ≡ Kept)
     × (is_picked pick (drain (made_due r frame k)).source frame ≡ true)
 
--- A precinct has as many bytes as its code-blocks say.
-abbrev pub IsWhole : Precinct → Type 0
-IsWhole x = length x.bytes ≡ segment_bytes x.blocks
+-- The precinct of a packet has as many bytes as its code-blocks say.
+abbrev pub IsWhole : Release → Type 0
+IsWhole x = length x.precinct.bytes ≡ segment_bytes x.precinct.blocks
 
--- All precincts that a receiver gives have as many bytes as their code-blocks say.
+-- The precincts of all packets that a receiver releases have as many bytes as their code-blocks say.
 abbrev pub GivenAreWhole : Type 0
 GivenAreWhole =
-    (r : Receiver) → AllByRecursion IsWhole r.precincts
-    → AllByRecursion IsWhole (drain r).precincts × AllByRecursion IsWhole (followed r r.decoder).precincts
+    (r : Receiver) → AllByRecursion IsWhole r.releases
+    → AllByRecursion IsWhole (drain r).releases × AllByRecursion IsWhole (followed r r.decoder).releases

@@ -10,22 +10,22 @@ use Rattle.wire_model.specs.Payload.{PayloadFields, BodyFields, Main, Body}
 use Rattle.wire_model.specs.Datagram.{Datagram, IsDatagram}
 use Rattle.stream_model.specs.Stream.{IsMainPayload, IsBodyPayload, extended_number}
 
--- a datagram is among the frames
+-- A datagram is among the frames.
 abbrev pub IsAmong : List (List ℕ) → Datagram → Type 0
 IsAmong frames x = (bytes : List ℕ) × Contains frames bytes × IsDatagram x bytes
 
--- a Body with these values
+-- The datagram is a Body with these values.
 abbrev pub IsBodyWith : BodyFields → PayloadFields → Type 0
 IsBodyWith g (Main h) = ⊥
 IsBodyWith g (Body h) = h ≡ g
 
--- the datagrams have consecutive numbers from this one on, modulo 2^24
+-- The datagrams have consecutive numbers from this one on, modulo 2^24.
 abbrev pub FollowFrom : ℕ → List Datagram → Type 0
 FollowFrom number [] = Unit {0}
 FollowFrom number (x ∷ xs) = (extended_number x ≡ number) × FollowFrom ((number + 1) % 2 ^ 24) xs
 
--- The place from which Bodies are read, in so many bytes behind the first one's start, and the first precinct there: where POS
--- of the first Body is, with its PID; or its start, where it follows the Main, with the first precinct of the order.
+-- The offset from which Bodies are read, counted from the first one's start, and the first precinct there: where POS of
+-- the first Body is, with its PID; or its start, where it follows the Main, with the first precinct of the order.
 abbrev pub StartsAt : Head → List Place → Datagram → Datagram → ℕ → Place → Type 0
 StartsAt h order main first at p =
     ((g : BodyFields) × IsBodyWith g first.payload × (g.ordb ≡ true) × (g.pos ≡ at) × (pid h p ≡ g.pid))

@@ -4,8 +4,10 @@ use Rattle.std.specs.List.{AllByRecursion}
 use Rattle.wire_model.specs.Framing.{whole_frames}
 use Rattle.codestream_model.specs.Bytes.{IsBytes}
 use Rattle.codestream_model.specs.PacketOrder.{pid}
+use Rattle.codestream_model.specs.Packet.{Content, SpellsPacket}
 use Rattle.stream_model.specs.Arrivals.{picked}
 use Rattle.stream_model.specs.Report.{Precinct, lines, end_line}
+use Rattle.stream_model.specs.Decoder.{Release, precincts_released}
 use Rattle.stream_model.specs.Reading.{IsReading}
 use Rattle.stream_model.specs.Receiver.{Pick, Receiver, new_receiver, take_frame, received, flushed, counts_of}
 use Rattle.stream_model.specs.Commands.{counted, report_lines}
@@ -14,18 +16,30 @@ use Rattle.stream_model.specs.Commands.{counted, report_lines}
 abbrev pub IsRead : List (List ℕ) → Precinct → Type 0
 IsRead frames x = (r : IsReading frames x.stamp x.place (record { blocks = x.blocks; bytes = x.bytes })) × (x.pid ≡ pid r.head x.place)
 
+-- What a precinct says.
+abbrev pub content_of : Precinct → Content
+content_of x = record { blocks = x.blocks; bytes = x.bytes }
+
+-- A packet that is released is read from these frames: its precinct is a reading of them, with the PID of its place; its bytes are a
+-- packet of the precinct that says the same; and the bytes of its main header are those of the reading's Main.
+pub record IsReleased (frames : List (List ℕ)) (x : Release) : Type 0 where
+  pub reading : IsReading frames x.precinct.stamp x.precinct.place (content_of x.precinct)
+  pub names : x.precinct.pid ≡ pid reading.head x.precinct.place
+  pub packet : SpellsPacket reading.head x.precinct.place (content_of x.precinct) x.raw
+  pub header : x.header ≡ reading.main.codestream
+
 -- Whatever bytes the frames are, each precinct that the rules give, before the end and at the end, is read from those that are
 -- picked.
 abbrev pub EachPrecinctIsRead : Type 0
 EachPrecinctIsRead =
     (pick : Pick) (frames : List (List ℕ)) → AllByRecursion IsBytes frames
-    → AllByRecursion (IsRead (picked pick.kind pick.source frames)) (flushed (received pick frames)).precincts
+    → AllByRecursion (IsRead (picked pick.kind pick.source frames)) (precincts_released (flushed (received pick frames)).releases)
 
 -- What was given before the end is a prefix of what is given at the end.
 abbrev pub GivenStays : Type 0
 GivenStays =
     (pick : Pick) (frames : List (List ℕ))
-    → (more : List Precinct) × ((flushed (received pick frames)).precincts ≡ (received pick frames).precincts ++ more)
+    → (more : List Release) × ((flushed (received pick frames)).releases ≡ (received pick frames).releases ++ more)
 
 -- The frames that a receiver keeps: those at which its count of kept frames rises.
 unfoldable pub kept_of : Pick → Receiver → List (List ℕ) → List (List ℕ)
@@ -37,13 +51,20 @@ kept_of pick r (f ∷ frames) =
 abbrev pub EachPrecinctIsKept : Type 0
 EachPrecinctIsKept =
     (pick : Pick) (frames : List (List ℕ)) → AllByRecursion IsBytes frames
-    → AllByRecursion (IsRead (kept_of pick (new_receiver pick) frames)) (flushed (received pick frames)).precincts
+    → AllByRecursion (IsRead (kept_of pick (new_receiver pick) frames)) (precincts_released (flushed (received pick frames)).releases)
+
+-- Each packet that the rules release, before the end and at the end, is read from the frames that are kept, with all its bytes and
+-- the bytes of its main header.
+abbrev pub EachReleaseIsRead : Type 0
+EachReleaseIsRead =
+    (pick : Pick) (frames : List (List ℕ)) → AllByRecursion IsBytes frames
+    → AllByRecursion (IsReleased (kept_of pick (new_receiver pick) frames)) (flushed (received pick frames)).releases
 
 -- What was given of some frames is a prefix of what is given of more.
 abbrev pub GivenGrows : Type 0
 GivenGrows =
     (pick : Pick) (frames later : List (List ℕ))
-    → (more : List Precinct) × ((received pick (frames ++ later)).precincts ≡ (received pick frames).precincts ++ more)
+    → (more : List Release) × ((received pick (frames ++ later)).releases ≡ (received pick frames).releases ++ more)
 
 -- The frames that are picked are those that the rules take: each is kept or old.
 abbrev pub PickedAreTaken : Type 0

@@ -10,17 +10,17 @@ use Rattle.codestream_model.specs.Packet.{Content, HasFewBlocks, block_count, Sp
 use Rattle.stream_model.specs.Decoder.{Found, Whole, Part, Other, found_packet}
 use Rattle.stream_model.specs.Receiver.{Pick, Receiver, take_frame, received, flushed}
 
--- a frame that isn't a well-formed datagram of the payload type changes the count of refused frames alone
+-- A frame that isn't a well-formed datagram of the payload type changes the count of refused frames alone.
 abbrev pub MalformedFramesAreCountedAlone : Type 0
 MalformedFramesAreCountedAlone = (pick : Pick) (r : Receiver) (frame : List ℕ) → (is_well_formed frame && ((datagram_of frame).rtp.kind == pick.kind)) ≡ false → take_frame pick r frame ≡ record r { refused = r.refused + 1 }
 
--- each frame is counted once: kept, old or refused
+-- Each frame is counted once: kept, old or refused.
 abbrev pub EachFrameIsCountedOnce : Type 0
 EachFrameIsCountedOnce = (pick : Pick) (frames : List (List ℕ)) → (flushed (received pick frames)).kept + (flushed (received pick frames)).old + (flushed (received pick frames)).refused ≡ length frames
 
--- What stands where a precinct's packet should: a whole packet with these code-blocks, and so many bytes of its header and of
--- itself; no bytes, or less than a packet; or, in some bytes, a precinct with too many code-blocks, a refused header, or a packet
--- that would be too long.
+-- What is where a precinct's packet should be: a whole packet with these code-blocks, and the numbers of bytes of its
+-- header and of itself; no bytes, or less than a packet; or, in some bytes, a precinct with too many code-blocks, a
+-- refused header, or a packet that would be too long.
 abbrev pub FoundIs : Head → Place → List ℕ → Found → Type 0
 FoundIs h p bytes (Whole blocks header size) =
     (x : Content) × (packet : List ℕ) × (more : List ℕ) × (s : SpellsPacket h p x packet) × (bytes ≡ packet ++ more)
@@ -30,6 +30,6 @@ FoundIs h p bytes Other =
     (1 ≤ length bytes) × ((65536 < block_count (grids h p))
     ⊎ (HasFewBlocks h p × (((why : HeaderRefusal) × RefusesMarkedHeader (grids h p) h.eph bytes why) ⊎ IsPacketTooLong h p bytes)))
 
--- what is found of a packet is what stands there
+-- What is found of a packet is what is there.
 abbrev pub FoundIsWhatStands : Type 0
 FoundIsWhatStands = (h : Head) (p : Place) (bytes : List ℕ) (f : Found) → IsBytes bytes → (found_packet h p bytes ≡ f) ↔ FoundIs h p bytes f

@@ -3,7 +3,8 @@ use Rattle.std.specs.Prelude.{◌+◌, ◌/◌, ◌%◌, ◌++◌, ℕ, List, []
 use Rattle.std.specs.List.{flat_map}
 use Rattle.codestream_model.specs.Values.{Place, Block}
 
--- a precinct of a picture with this stamp: its PID and its place, its included code-blocks, and the bytes of their segments
+-- A precinct of a picture with this stamp: its PID and its place, its included code-blocks, and the bytes of their
+-- segments.
 pub record Precinct : Type 0 where
   pub stamp : ℕ
   pub pid : ℕ
@@ -11,7 +12,7 @@ pub record Precinct : Type 0 where
   pub blocks : List Block
   pub bytes : List ℕ
 
--- what a receiver has counted
+-- What a receiver has counted.
 pub record Counts : Type 0 where
   pub kept : ℕ
   pub old : ℕ
@@ -20,36 +21,37 @@ pub record Counts : Type 0 where
   pub disagreed : ℕ
   pub broken : ℕ
 
--- a digit of base 16, in lower case, and bytes in two digits each
+-- A digit of base 16, in lower case.
 abbrev pub hex_digit : ℕ → ℕ
 hex_digit n = if nat_lt n 10 then 48 + n else 87 + n
 
+-- Bytes in two digits of base 16 each.
 abbrev pub hex : List ℕ → List ℕ
 hex bytes = flat_map (λ b. hex_digit (b / 16) ∷ hex_digit (b % 16) ∷ []) bytes
 
--- the line of a precinct
+-- The line of a precinct.
 abbrev pub precinct_line : Precinct → List ℕ
 precinct_line x =
     codes "P stamp=" ++ decimal x.stamp ++ codes " pid=" ++ decimal x.pid ++ codes " c=" ++ decimal x.place.c ++ codes " r=" ++ decimal x.place.r
     ++ codes " k=" ++ decimal x.place.k ++ codes " blocks=" ++ decimal (length x.blocks) ++ codes "\n"
 
--- the line of a code-block with these bytes
+-- The line of a code-block with these bytes.
 abbrev pub block_line : Block → List ℕ → List ℕ
 block_line b bytes =
     codes "B band=" ++ decimal b.band ++ codes " col=" ++ decimal b.col ++ codes " row=" ++ decimal b.row ++ codes " planes=" ++ decimal b.planes
     ++ codes " passes=" ++ decimal b.passes ++ codes " cleanup=" ++ decimal b.cleanup ++ codes " refine=" ++ decimal b.refine
     ++ codes " bytes=" ++ hex bytes ++ codes "\n"
 
--- the lines of code-blocks, whose bytes follow one another
+-- The lines of code-blocks, whose bytes follow one another.
 abbrev pub block_lines : List Block → List ℕ → List ℕ
 block_lines [] bytes = []
 block_lines (b ∷ blocks) bytes = block_line b (take (b.cleanup + b.refine) bytes) ++ block_lines blocks (drop (b.cleanup + b.refine) bytes)
 
--- the lines of precincts
+-- The lines of precincts.
 abbrev pub lines : List Precinct → List ℕ
 lines precincts = flat_map (λ x. precinct_line x ++ block_lines x.blocks x.bytes) precincts
 
--- the line at the end
+-- The line at the end.
 abbrev pub end_line : Counts → List ℕ
 end_line n =
     codes "END kept=" ++ decimal n.kept ++ codes " old=" ++ decimal n.old ++ codes " refused=" ++ decimal n.refused

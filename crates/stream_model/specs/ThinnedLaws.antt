@@ -10,6 +10,7 @@ use Rattle.stream_model.specs.Stream.{Parts, Sent, ArePartsOf, datagrams_of, pac
 use Rattle.stream_model.specs.Reached.{ResyncPoint, is_reached, due_at_end}
 use Rattle.stream_model.specs.Cut.{Plan, IsPlan, room, sent_by, datagram_bytes}
 use Rattle.stream_model.specs.Report.{Precinct, Counts, lines, end_line}
+use Rattle.stream_model.specs.Decoder.{precincts_released}
 use Rattle.stream_model.specs.Receiver.{Pick, received, flushed}
 use Rattle.stream_model.specs.EndCounts.{end_counts}
 use Rattle.stream_model.specs.Commands.{counted, thin_output, report_lines}
@@ -92,7 +93,7 @@ abbrev pub ThinnedGives : Type 0
 ThinnedGives =
     (p : Plan) (parts : List Parts) (codestreams : List (List ℕ)) (limit : ℕ) (pick : Pick)
     → CanBeSent p parts codestreams → Picks p pick
-    → (flushed (received pick (kept limit (cut_of p parts)))).precincts ≡ reached_through p parts limit pick.window
+    → precincts_released (flushed (received pick (kept limit (cut_of p parts)))).releases ≡ reached_through p parts limit pick.window
 
 -- The counts where `n` frames are kept and nothing else is counted.
 abbrev pub all_kept : ℕ → Counts

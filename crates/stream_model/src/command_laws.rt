@@ -2,12 +2,12 @@
 
 ghost use Rattle.stream_model.specs.CommandLaws.{ParseWritesWholePackets, ReadsHaveWholePackets, ParseWritesInputs, ParseWritesUpToFault};
 
-/// `parse` writes the lines of all packets of the whole codestreams, and then those of the whole packets behind them.
+/// `parse` writes the lines of all packets of the whole codestreams, and then those of the whole packets after them.
 pub fn parse_writes_whole_packets()
     ensures { ParseWritesWholePackets }
 {}
 
-/// All bytes that `parse` may have read are whole codestreams, and behind them whole packets up to the first that isn't there.
+/// All bytes that `parse` may have read are whole codestreams, and after them whole packets up to the first that isn't there.
 pub fn reads_have_whole_packets()
     ensures { ReadsHaveWholePackets }
 {}

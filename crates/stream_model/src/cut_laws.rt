@@ -2,7 +2,7 @@
 
 ghost use Rattle.stream_model.specs.CutLaws.{BytesFixDatagrams, ClosedGrows, ClosedIsCut, ClosedIsFrontOfCut};
 
-/// More bytes only add datagrams behind those that are fixed.
+/// More bytes only add datagrams after those that are fixed.
 pub fn closed_grows()
     ensures { ClosedGrows }
 {}

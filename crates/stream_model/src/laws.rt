@@ -37,7 +37,7 @@ pub fn base_never_falls()
     ensures { BaseNeverFalls }
 {}
 
-/// What stands below the base is decided.
+/// What is below the base is decided.
 pub fn below_base_is_decided()
     ensures { BelowBaseIsDecided }
 {}
@@ -57,7 +57,7 @@ pub fn reached_is_computed()
     ensures { ReachedIsComputed }
 {}
 
-/// What is due stays due, and what becomes due comes behind it.
+/// What is due stays due, and what becomes due comes after it.
 pub fn due_grows()
     ensures { DueGrows }
 {}
@@ -77,7 +77,7 @@ pub fn events_are_one()
     ensures { EventsAreOne }
 {}
 
-/// The byte of a place after SOD stands in the Body that is computed.
+/// The byte at an offset after SOD is in the Body that is computed.
 pub fn body_has_byte()
     ensures { BodyHasByte }
 {}
@@ -87,7 +87,7 @@ pub fn precinct_is_found()
     ensures { PrecinctIsFound }
 {}
 
-/// The packets of a stream stand in order.
+/// The packets of a stream are in order.
 pub fn stream_is_in_order()
     ensures { StreamIsInOrder }
 {}

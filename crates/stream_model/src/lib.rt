@@ -29,8 +29,8 @@ pub use laws::{
     whole_stream_is_due, written_is_datagram,
 };
 pub use reading_laws::{
-    each_precinct_is_kept, each_precinct_is_read, given_grows, given_stays, picked_are_taken,
-    report_is_read,
+    each_precinct_is_kept, each_precinct_is_read, each_release_is_read, given_grows, given_stays,
+    picked_are_taken, report_is_read,
 };
 pub use receiver_laws::{
     arrive_front, drained_has_nothing, drained_takes_frame, each_frame_is_counted_once,
@@ -40,5 +40,6 @@ pub use receiver_laws::{
 };
 pub use run_laws::{
     each_precinct_is_said, gives_what_is_due, gives_what_is_reached, hands_on_in_order,
-    in_order_gives_all, runs_give_what_is_reached, window_is_at_base,
+    in_order_gives_all, releases_what_is_reached, runs_give_what_is_reached,
+    runs_release_what_is_reached, window_is_at_base,
 };

@@ -1,5 +1,10 @@
 //! The laws of what a receiver gives of any frames, each on a function that does nothing.
-ghost use Rattle.stream_model.specs.ReadingLaws.{EachPrecinctIsRead, EachPrecinctIsKept, GivenStays, GivenGrows, PickedAreTaken, ReportIsRead};
+ghost use Rattle.stream_model.specs.ReadingLaws.{EachReleaseIsRead, EachPrecinctIsRead, EachPrecinctIsKept, GivenStays, GivenGrows, PickedAreTaken, ReportIsRead};
+
+/// Each packet that the rules release of any frames is read from those that are kept, with all its bytes.
+pub fn each_release_is_read()
+    ensures { EachReleaseIsRead }
+{}
 
 /// Each precinct that the rules give of any frames is read from those that are picked.
 pub fn each_precinct_is_read()
@@ -11,12 +16,12 @@ pub fn each_precinct_is_kept()
     ensures { EachPrecinctIsKept }
 {}
 
-/// What was given before the end stands in front of what is given at the end.
+/// What was given before the end is a prefix of what is given at the end.
 pub fn given_stays()
     ensures { GivenStays }
 {}
 
-/// What was given of some frames stands in front of what is given of more.
+/// What was given of some frames is a prefix of what is given of more.
 pub fn given_grows()
     ensures { GivenGrows }
 {}

@@ -15,7 +15,7 @@ pub fn each_frame_is_counted_once()
     ensures { EachFrameIsCountedOnce }
 {}
 
-/// What the rules find where a precinct's packet should stand is what stands there.
+/// What the rules find where a precinct's packet should be is what is there.
 pub fn found_is_what_stands()
     ensures { FoundIsWhatStands }
 {}

@@ -1,11 +1,16 @@
 //! The laws of what a receiver gives of a stream, each on a function that does nothing.
 
-ghost use Rattle.stream_model.specs.RunLaws.{RunsGiveWhatIsReached};
-ghost use Rattle.stream_model.specs.StreamLaws.{InOrderGivesAll, HandsOnInOrder, GivesWhatIsReached, WindowIsAtBase, EachPrecinctIsSaid, GivesWhatIsDue};
+ghost use Rattle.stream_model.specs.RunLaws.{RunsGiveWhatIsReached, RunsReleaseWhatIsReached};
+ghost use Rattle.stream_model.specs.StreamLaws.{InOrderGivesAll, HandsOnInOrder, GivesWhatIsReached, ReleasesWhatIsReached, WindowIsAtBase, EachPrecinctIsSaid, GivesWhatIsDue};
 
 /// Whichever datagrams of a stream are there, the rules give exactly the precincts that are reached, in order and with their content.
 pub fn runs_give_what_is_reached()
     ensures { RunsGiveWhatIsReached }
+{}
+
+/// They release each with all its bytes, under the main header of its codestream.
+pub fn runs_release_what_is_reached()
+    ensures { RunsReleaseWhatIsReached }
 {}
 
 /// Without loss and in order the rules give every precinct, whatever the window.
@@ -16,6 +21,12 @@ pub fn in_order_gives_all()
 /// Whatever arrives of a stream, the rules give what is reached, and the counts are those of the arrivals.
 pub fn gives_what_is_reached()
     ensures { GivesWhatIsReached }
+{}
+
+/// Whatever arrives of a stream, the rules release what is reached, each packet with all its bytes, under the main header of its
+/// codestream.
+pub fn releases_what_is_reached()
+    ensures { ReleasesWhatIsReached }
 {}
 
 /// The window's next number is that of the base, and nothing is due, after each arrival.

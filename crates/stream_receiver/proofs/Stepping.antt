@@ -1,9 +1,8 @@
 -- One precinct of what is left.
 use Rattle.std.proofs.Common.{◌≡◌, ◌<◌, ◌++◌, ℕ, Bool, true, false, List, [], ◌∷◌, Option, Some, None, refl, sym, ◌∙◌, ap, subst}
 use Rattle.wire_model.specs.Datagram.{Datagram}
-use Rattle.stream_model.specs.Report.{Precinct}
 use Rattle.stream_model.specs.Decoder as rules_decoder
-use Rattle.stream_model.specs.Decoder.{settled, with_precinct, Settled, take_gap}
+use Rattle.stream_model.specs.Decoder.{Release, settled, with_release, Settled, take_gap}
 use Rattle.stream_model.specs.Receiver as rules
 use Rattle.stream_model.specs.Receiver.{followed, decoded, drain}
 use Rattle.stream_model.specs.ReceiverJoins.{having_given}
@@ -15,7 +14,7 @@ use Rattle.resync_decoder.specs.States as decoder
 use Rattle.stream_receiver.specs.States.{ReceiverState, followed_by, rest, Gave, Settles, Advances}
 
 -- what was given is given of all that is left
-gave_drained : (r left : rules.Receiver) (o : Option Precinct) → Gave r o left → Gave (drain r) o (drain left)
+gave_drained : (r left : rules.Receiver) (o : Option Release) → Gave r o left → Gave (drain r) o (drain left)
 gave_drained r left None g = absurd g
 gave_drained r left (Some x) g = ap drain g ∙ drain_join (x ∷ []) left
 
@@ -66,22 +65,22 @@ step_moved size first s t u so g near a =
     (so ∙ (rest_is s t g ∙ f.0), subst W (sym same) f.1)
 
 -- the decoder's rules give a precinct, or wait
-gives_by : (r : rules.Receiver) (d : rules_decoder.Decoder) (o : Option Precinct) (s : decoder.DecoderState) → r.precincts ≡ [] → decoder.Gives d o s → Gave (followed r d) o (followed r s.rules)
+gives_by : (r : rules.Receiver) (d : rules_decoder.Decoder) (o : Option Release) (s : decoder.DecoderState) → r.releases ≡ [] → decoder.Gives d o s → Gave (followed r d) o (followed r s.rules)
 gives_by r d None s fresh g = absurd g
 gives_by r d (Some x) s fresh g =
-    ap (λ (k : Settled). record r { decoder = k.decoder; precincts = r.precincts ++ k.precincts }) g
-    ∙ ap (λ l. record r { decoder = (settled s.rules).decoder; precincts = l }) (grown r.precincts fresh x (settled s.rules).precincts) where
-      grown : (xs : List Precinct) → xs ≡ [] → (x : Precinct) (ys : List Precinct) → xs ++ (x ∷ ys) ≡ (x ∷ []) ++ (xs ++ ys)
+    ap (λ (k : Settled). record r { decoder = k.decoder; releases = r.releases ++ k.releases }) g
+    ∙ ap (λ l. record r { decoder = (settled s.rules).decoder; releases = l }) (grown r.releases fresh x (settled s.rules).releases) where
+      grown : (xs : List Release) → xs ≡ [] → (x : Release) (ys : List Release) → xs ++ (x ∷ ys) ≡ (x ∷ []) ++ (xs ++ ys)
       grown xs e x ys = rw e refl
 
-pub settles_gave : (r : rules.Receiver) (b : Bool) (s : decoder.DecoderState) → b ≡ false → r.precincts ≡ [] → decoder.Steps r.decoder true s → Gave (followed_by b r) s.given (followed_by b (record r { decoder = s.rules }))
+pub settles_gave : (r : rules.Receiver) (b : Bool) (s : decoder.DecoderState) → b ≡ false → r.releases ≡ [] → decoder.Steps r.decoder true s → Gave (followed_by b r) s.given (followed_by b (record r { decoder = s.rules }))
 settles_gave r true s e fresh g = absurd (cc)
 settles_gave r false s e fresh g = gives_by r r.decoder s.given s fresh g
 
-pub settles_waits : (r : rules.Receiver) (b : Bool) (s : decoder.DecoderState) → b ≡ false → r.precincts ≡ [] → decoder.Steps r.decoder false s → followed_by b r ≡ record r { decoder = s.rules }
+pub settles_waits : (r : rules.Receiver) (b : Bool) (s : decoder.DecoderState) → b ≡ false → r.releases ≡ [] → decoder.Steps r.decoder false s → followed_by b r ≡ record r { decoder = s.rules }
 settles_waits r true s e fresh g = absurd (cc)
 settles_waits r false s e fresh g =
-    ap (λ (k : Settled). record r { decoder = k.decoder; precincts = r.precincts ++ k.precincts }) g.0
-    ∙ ap (λ l. record r { decoder = s.rules; precincts = l }) (grown r.precincts fresh) where
-      grown : (xs : List Precinct) → xs ≡ [] → xs ++ [] ≡ xs
+    ap (λ (k : Settled). record r { decoder = k.decoder; releases = r.releases ++ k.releases }) g.0
+    ∙ ap (λ l. record r { decoder = s.rules; releases = l }) (grown r.releases fresh) where
+      grown : (xs : List Release) → xs ≡ [] → xs ++ [] ≡ xs
       grown xs e = rw e refl

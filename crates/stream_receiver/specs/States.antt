@@ -1,10 +1,10 @@
 -- What a contract sees of a receiver, and what its calls do.
 use Rattle.std.specs.Prelude.{◌≡◌, ◌⊎◌, ◌+◌, ℕ, Bool, true, false, List, [], ◌∷◌, Option, Some, None}
 use Rattle.wire_model.specs.Datagram.{Datagram, datagram_of}
-use Rattle.stream_model.specs.Report.{Precinct, Counts}
+use Rattle.stream_model.specs.Report.{Counts}
 use Rattle.stream_model.specs.Arrivals.{is_of_kind}
 use Rattle.stream_model.specs.Stream.{extended_number}
-use Rattle.stream_model.specs.Decoder.{one_more, take_gap}
+use Rattle.stream_model.specs.Decoder.{Release, one_more, take_gap}
 use Rattle.stream_model.specs.Receiver as rules
 use Rattle.stream_model.specs.Receiver.{followed, decoded, drain, take_frame}
 use Rattle.stream_model.specs.ReceiverJoins.{having_given}
@@ -24,13 +24,13 @@ use Rattle.stream_receiver.specs.Datagrams.{IsFault}
 abbrev pub pick_of : Pick → rules.Pick
 pick_of p = record { kind = p.kind; source = p.source; window = p.window }
 
--- A receiver: the stream that is picked; its state by the rules, without the precincts that were
--- given; the precinct that `released` lends; and whether the decoder's rules were followed since
+-- A receiver: the stream that is picked; its state by the rules, without the packets that were
+-- given; the packet that `released` and `raw` lend; and whether the decoder's rules were followed since
 -- the window handed on the last datagram.
 pub record ReceiverState : Type 0 where
   pub pick : rules.Pick
   pub rules : rules.Receiver
-  pub given : Option Precinct
+  pub given : Option Release
   pub settled : Bool
 
 -- A new receiver of a stream.
@@ -107,8 +107,8 @@ Offers s frame Drain t =
 Offers s frame Old t = t.rules ≡ take_frame s.pick s.rules frame
 Offers s frame (Refused why) t = t.rules ≡ take_frame s.pick s.rules frame
 
--- A receiver has given this precinct, and others are left.
-abbrev pub Gave : rules.Receiver → Option Precinct → rules.Receiver → Type 0
+-- A receiver has given this packet, and others are left.
+abbrev pub Gave : rules.Receiver → Option Release → rules.Receiver → Type 0
 Gave r None left = ⊥
 Gave r (Some x) left = r ≡ having_given (x ∷ []) left
 

@@ -1,10 +1,11 @@
 //! The receiver: each datagram is offered to the window, and steps decode what the window hands on.
-ghost use Rattle.std.specs.Prelude.{◌≡◌, ◌≤◌, ◌<◌, ◌+◌, ◌-◌, ◌^◌, IfOk, IsSome, Some, None, true, [], length};
+ghost use Rattle.std.specs.Prelude.{◌≡◌, ◌≤◌, ◌<◌, ◌+◌, ◌-◌, ◌^◌, IfOk, IsSome, Some, None, true, [], length, option_map};
+ghost use Rattle.std.specs.Option.{ForSome};
 ghost use Rattle.stream_model.specs.Decoder.{one_more};
 ghost use Rattle.stream_model.specs.Receiver.{flushed, counts_of, is_source};
 ghost use Rattle.stream_model.specs.Window.{next as handed_on, make_all_due};
 ghost use Rattle.stream_model.specs.DrainLaws.{IsWindow};
-ghost use Rattle.resync_decoder.specs.States.{precinct_of};
+ghost use Rattle.resync_decoder.specs.States.{precinct_of, header_in};
 ghost use Rattle.stream_receiver.specs.States.{new_state, pick_of, counted, followed_by, rest, tally_of};
 ghost use Rattle.stream_receiver.specs.States.{Answers, after_offer, Offers, StepsTo, Settles, Advances};
 
@@ -136,7 +137,7 @@ impl Receiver {
     /// Goes on to the next precinct that is due.
     pub fn step(&mut self) -> Stepped
         ensures rules { StepsTo self.old result self.new }
-        ensures fresh { self.new.rules.precincts ≡ [] }
+        ensures fresh { self.new.rules.releases ≡ [] }
         ensures pick { self.new.pick ≡ self.old.pick }
     {
         loop {
@@ -155,12 +156,40 @@ impl Receiver {
     /// The precinct that the last `step` gave, until the next call. That `step` answered `Ready`.
     pub fn released(&self) -> Precinct<'_>
         requires { IsSome self.now.given }
-        ensures { self.now.given ≡ Some (precinct_of result) }
+        ensures { option_map (λ x. x.precinct) self.now.given ≡ Some (precinct_of result) }
     {
         let Some(stamp) = self.decoder.stamp() else {
             unreachable!()
         };
         self.decoder.released(stamp)
+    }
+
+    /// All bytes of the packet of the precinct that the last `step` gave, those of its header and
+    /// then of its segments, until the next call. That `step` answered `Ready`.
+    pub fn raw(&self) -> &[u8]
+        requires { IsSome self.now.given }
+        ensures { option_map (λ x. x.raw) self.now.given ≡ Some result.now }
+    {
+        self.decoder.raw()
+    }
+
+    /// The bytes of the main header in force, under which a precinct is given; None where there is
+    /// none.
+    pub fn head(&self) -> Option<&[u8]>
+        ensures head { option_map (λ b. b.now) result ≡ header_in self.now.rules.decoder.current }
+        ensures given { ForSome self.now.given
+            (λ x. header_in self.now.rules.decoder.current ≡ Some x.header) }
+    {
+        self.decoder.head()
+    }
+
+    /// The number of Main packets whose bytes were exactly one accepted main header. It stays at
+    /// 2^64 - 1.
+    pub fn heads(&self) -> u64
+        ensures heads { result ≡ self.now.rules.decoder.heads }
+        ensures given { ForSome self.now.given (λ x. x.heads ≡ result) }
+    {
+        self.decoder.heads()
     }
 
     /// Makes all numbers due up to the highest that is held. The steps that follow give what is
@@ -193,7 +222,7 @@ impl Receiver {
     /// Proof only: what the window holds is near its base.
     fn is_near(&self)
         ensures near { IsWindow self.now.pick.window self.now.rules.window self.now.rules.window.base }
-        ensures fresh { self.now.rules.precincts ≡ [] }
+        ensures fresh { self.now.rules.releases ≡ [] }
     {
         let _ = &self.pick;
     }

@@ -128,3 +128,19 @@ fn precincts_are_given_in_order_once_they_are_due(rt: HostRuntime) -> Result<(),
     assert_eq!(rt; receiver.tally(), tally);
     Ok(())
 }
+
+#[test]
+fn a_packet_is_given_with_all_its_bytes_under_its_main_header(rt: HostRuntime) -> Result<(), Fail> {
+    let mut receiver = Receiver::new(rt.alloc(), PICK)?;
+    assert!(rt; receiver.head().is_none());
+    assert_eq!(rt; receiver.heads(), 0);
+    let frames = [&main_packet()[..], &body_packet(1, 0)];
+    for frame in frames {
+        assert_eq!(rt; receiver.offer(frame), Taken::Kept);
+    }
+    assert_eq!(rt; receiver.step(), Stepped::Ready);
+    assert_eq!(rt; receiver.raw(), &[0u8][..]);
+    assert_eq!(rt; receiver.head(), Some(&THREE_SAMPLES[..]));
+    assert_eq!(rt; receiver.heads(), 1);
+    Ok(())
+}

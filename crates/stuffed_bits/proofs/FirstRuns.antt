@@ -59,7 +59,7 @@ lacking (suc n) y h =
 lowest_bits : (left byte : ℕ) → number_bits left (byte % 2 ^ left) ≡ number_bits left byte
 lowest_bits left byte = let whole : byte / 2 ^ left * 2 ^ left + byte % 2 ^ left ≡ byte = div-add-mod' byte (2 ^ left) in sym (ap (number_bits left) (sym whole) ∙ above left (byte / 2 ^ left) (byte % 2 ^ left))
 
--- the first bits that are 0, of a number of so many bits
+-- the first bits that are 0, of a number of n bits
 first_zeros : (left y m : ℕ) → m ≤ left → y < 2 ^ m → 2 ^ m ≤ 2 * y + 1 → BeginsWith false (left - m) (number_bits left y)
 unfolding number_bits
 first_zeros left y zero few small great =
@@ -151,7 +151,7 @@ ended_front of n left v few (inr (rest, e)) =
     let size : length front ≡ n + 1 = omega (arith, length-append (replicate n of) (not of ∷ []), length-replicate n of) in
     front_of left v front rest (omega arith) (e ∙ sym (append_assoc (replicate n of) (not of ∷ []) rest)) ∙ ap (λ (k : ℕ). front ++ number_bits (left - k) v) size
 
--- a run of no fewer bits than so many
+-- a run of at least n bits
 begins_with_fewer : (of : Bool) (n k : ℕ) (bits : List Bool) → k ≤ n → BeginsWith of n bits → (tail : List Bool) × (bits ≡ replicate k of ++ tail)
 begins_with_fewer of n k bits few (inl e) =
     let s : n ≡ k + (n - k) = omega arith in
@@ -168,8 +168,8 @@ whole_front of n k left v few low b =
     front_of left v (replicate k of) t.0 (omega (arith, size)) t.1 ∙ ap (λ (m : ℕ). replicate k of ++ number_bits (left - m) v) size
 
 -- the same, with the byte in hand as the code has it
-pub begins_in_hand : (of : Bool) (n left own byte v : ℕ) → left ≡ own → byte ≡ v → BeginsWith of n (number_bits left byte) → BeginsWith of n (number_bits own v)
-begins_in_hand of n left own byte v e f b =
+pub begins_unread : (of : Bool) (n left own byte v : ℕ) → left ≡ own → byte ≡ v → BeginsWith of n (number_bits left byte) → BeginsWith of n (number_bits own v)
+begins_unread of n left own byte v e f b =
     let P : ℕ → Type 0 = λ k. BeginsWith of n (number_bits k byte) in
     let Q : ℕ → Type 0 = λ k. BeginsWith of n (number_bits own k) in
     subst Q f (subst P e b)

@@ -1,4 +1,4 @@
-pub mod StandLemmas
+pub mod CarriedLemmas
 pub mod RangeLemmas
 pub mod ReadLemmas
 pub mod NumberLemmas
@@ -8,4 +8,4 @@ pub mod PartsRead
 pub mod FirstRuns
 pub mod RunAnswers
 pub mod PackedLemmas
-pub mod PenLemmas
+pub mod WriterLemmas

@@ -12,7 +12,7 @@ zeros_are_zero zero k = refl
 zeros_are_zero (suc n) zero = refl
 zeros_are_zero (suc n) (suc k) = omega (arith, zeros_are_zero n k)
 
--- zeros behind bits add nothing
+-- zeros after bits add nothing
 pub zeros_add_nothing : (n : ℕ) (bits : List Bool) (k : ℕ) → number_of n (bits ++ replicate k false) ≡ number_of n bits
 unfolding number_of
 zeros_add_nothing zero bits k = refl

@@ -1,4 +1,4 @@
--- Bits that stand in bytes with zeros behind them: the bytes are those of the packing, and reach as far as it does.
+-- Bits that are in bytes with zeros after them: the bytes are those of the packing, and reach as far as it does.
 use Rattle.std.proofs.Common.{◌≡◌, ◌<◌, ◌≤◌, ◌^◌, ◌==◌, ℕ, zero, suc, Bool, false, List, [], ◌∷◌, ◌++◌, length, take, drop, replicate, slice_index, refl, sym, ◌∙◌, ap, inl, inr, arith, append_assoc, if◌then◌else◌}
 use Rattle.std.proofs.lemmas.List.{length-append, length-drop, drop_at, take_at, drop-append-le}
 use Rattle.codestream_model.specs.Bytes.{IsBytes}
@@ -6,10 +6,10 @@ use Rattle.codestream_model.specs.StuffedBits.{IsStuffed, number_bits, number_of
 use Rattle.codestream_model.proofs.BitLemmas.{number_bits-length, number_of_bits}
 use Rattle.codestream_model.proofs.PackingLemmas.{width_cases}
 use Rattle.codestream_model.proofs.HeaderLemmas.{stuffed_tail, bytes_reached}
-use Rattle.stuffed_bits.specs.Stands.{last_from, StandIn}
+use Rattle.stuffed_bits.specs.Carried.{last_from, Carries}
 use Rattle.stuffed_bits.proofs.NumberLemmas.{zeros_add_nothing}
 
--- what closes bits behind their last byte
+-- what closes bits after their last byte
 abbrev pub closing : ℕ → List ℕ
 closing last = if last == 255 then 0 ∷ [] else []
 
@@ -25,7 +25,7 @@ byte_fits before b small low = elim (width_cases before) [
   | inr t ↦ rw t.1 (omega arith)
 ]
 
--- the packing of bits that stand in bytes which follow this one
+-- the packing of bits that are in bytes which follow this one
 packing_of : (room before : ℕ) (bits : List Bool) (k : ℕ) (bytes : List ℕ) → IsBytes bytes → (before ≡ 255 → slice_index bytes 0 < 128) → IsStuffed bytes
     → carried_after before bytes ≡ bits ++ replicate k false → ((n : ℕ) → n < length bytes → length (carried_after before (take n bytes)) < length bits) → length bits ≤ room
     → packed_after room before bits ≡ bytes ++ closing (last_from before bytes)
@@ -52,8 +52,8 @@ packing_of (suc room) before (c ∷ bits) k (b ∷ r ∷ bytes) each first stuff
     (omega (arith, length-drop w (c ∷ bits), width_cases before)) in
     rw byte (ap (λ (l : List ℕ). b ∷ l) more)
 
--- the packing of bits that stand in bytes, with zeros behind them
-pub packing_is : (bits : List Bool) (k : ℕ) (bytes : List ℕ) → StandIn bits (replicate k false) bytes → packing bits ≡ bytes ++ closing (last_from 0 bytes)
+-- the packing of bits that are in bytes, with zeros after them
+pub packing_is : (bits : List Bool) (k : ℕ) (bytes : List ℕ) → Carries bits (replicate k false) bytes → packing bits ≡ bytes ++ closing (last_from 0 bytes)
 packing_is bits k bytes s = packing_of (length bits) 0 bits k bytes s.each (λ e. absurd (omega arith)) s.stuffed s.filled s.needed (omega arith)
 
 -- bytes with a last one: those before it, and it
@@ -65,14 +65,14 @@ split_last before b (c ∷ bytes) =
     (b ∷ r.0, ap (λ (l : List ℕ). b ∷ l) r.1)
 
 -- the bytes before the last one carry fewer bits
-front_is_short : (bits spare : List Bool) (bytes front : List ℕ) (last : ℕ) → StandIn bits spare bytes → bytes ≡ front ++ last ∷ [] → length (carried front) < length bits
+front_is_short : (bits spare : List Bool) (bytes front : List ℕ) (last : ℕ) → Carries bits spare bytes → bytes ≡ front ++ last ∷ [] → length (carried front) < length bits
 front_is_short bits spare bytes front last s e =
     let h : length (carried (take (length front) bytes)) < length bits = s.needed (length front) (omega (arith, ap length e, length-append front (last ∷ []))) in
     let f : take (length front) bytes ≡ front = ap (take (length front)) e ∙ take_at front (last ∷ []) (length front) refl in
     rw f at h
 
--- bits that stand in bytes reach into all of these
-pub reach_of : (bits spare : List Bool) (bytes more : List ℕ) → StandIn bits spare bytes → 0 < length bytes → bytes_of_bits 0 (length bits) (bytes ++ more) ≡ length bytes
+-- bits that are in bytes reach into all of these
+pub reach_of : (bits spare : List Bool) (bytes more : List ℕ) → Carries bits spare bytes → 0 < length bytes → bytes_of_bits 0 (length bits) (bytes ++ more) ≡ length bytes
 reach_of bits spare [] more s some = absurd (omega arith)
 reach_of bits spare (b ∷ bytes) more s some =
     let r = split_last 0 b bytes in
@@ -83,8 +83,8 @@ reach_of bits spare (b ∷ bytes) more s some =
     let whole : (b ∷ bytes) ++ more ≡ r.0 ++ last ∷ more = ap (λ (l : List ℕ). l ++ more) e ∙ append_assoc r.0 (last ∷ []) more in
     ap (bytes_of_bits 0 (length bits)) whole ∙ (bytes_reached 0 r.0 last more (length bits) low high ∙ omega (arith, ap length e, length-append r.0 (last ∷ [])))
 
--- bits that stand in bytes are packed in them, where their last byte is closed
-pub packs_where_closed : (bits spare : List Bool) (bytes closes : List ℕ) → StandIn bits spare bytes → 0 < length bytes → length closes ≡ closing_after (last_from 0 bytes)
+-- bits that are in bytes are packed in them, where their last byte is closed
+pub packs_where_closed : (bits spare : List Bool) (bytes closes : List ℕ) → Carries bits spare bytes → 0 < length bytes → length closes ≡ closing_after (last_from 0 bytes)
     → IsBytes (bytes ++ closes) → IsStuffed (bytes ++ closes) → Packs bits (bytes ++ closes)
 packs_where_closed bits spare [] closes s some size each stuffed = absurd (omega arith)
 packs_where_closed bits spare (b ∷ bytes) closes s some size each stuffed =

@@ -1,5 +1,5 @@
 -- Numbers in parts, and that a reader that has begun a byte gives a part of its bits.
-use Rattle.std.proofs.Common.{◌≡◌, ◌<◌, ◌≤◌, ◌+◌, ◌-◌, ◌*◌, ◌/◌, ◌%◌, ◌^◌, ◌==◌, ℕ, zero, suc, Bool, List, [], ◌∷◌, ◌++◌, length, drop, Some, refl, sym, ◌∙◌, ap, subst, arith, append_assoc}
+use Rattle.std.proofs.Common.{◌≡◌, ◌<◌, ◌≤◌, ◌+◌, ◌-◌, ◌*◌, ◌/◌, ◌%◌, ◌^◌, ◌==◌, ℕ, zero, suc, Bool, List, [], ◌∷◌, ◌++◌, length, drop, Some, Ok, refl, sym, ◌∙◌, ap, subst, arith, append_assoc}
 use Rattle.std.specs.List.{slice_range}
 use Rattle.std.proofs.lemmas.Nat.{pow-add, div-mul-add, div-add-mod'}
 use Rattle.std.proofs.lemmas.List.{length-append}
@@ -7,12 +7,11 @@ use Rattle.std.proofs.Math.Nat.{div-div-eq-div-mul, mul-le-mul_right, mod-eq_of_
 use Rattle.codestream_model.specs.Bytes.{IsBytes}
 use Rattle.codestream_model.specs.StuffedBits.{number_bits, width_after}
 use Rattle.codestream_model.proofs.BitLemmas.{higher_bits, number_bits-length}
-use Rattle.stuffed_bits.specs.Stands.{StandIn, last_from, before_next, Begun}
-use Rattle.stuffed_bits.specs.Hand.{Hand}
+use Rattle.stuffed_bits.specs.Carried.{Carries, last_from, before_next, Begun}
+use Rattle.stuffed_bits.specs.BitInState.{BitInState}
 use Rattle.stuffed_bits.specs.BitsRead.{HasDrawn, HasBegun, next_of}
 use Rattle.stuffed_bits.specs.NumbersRead.{high_part}
-use Rattle.stuffed_bits.specs.declared.bit_in.Next.TheVariants.{Byte}
-use Rattle.stuffed_bits.proofs.StandLemmas.{before_last, last_of-push, begins}
+use Rattle.stuffed_bits.proofs.CarriedLemmas.{before_last, last_of-push, begins}
 use Rattle.stuffed_bits.proofs.ReadLemmas.{byte_next, byte_of_piece, range_one, took}
 
 -- the bits of a number, in two parts
@@ -27,11 +26,11 @@ split_bits j (suc k) v =
     let h : (v / 2 ^ (k + j) % 2 == 1) ≡ (v / 2 ^ j / 2 ^ k % 2 == 1) = ap (λ (n : ℕ). n % 2 == 1) e in
     rw s (ap (λ (l : List Bool). (v / 2 ^ (k + j) % 2 == 1) ∷ l) (split_bits j k v) ∙ ap (λ (b : Bool). b ∷ (number_bits k (v / 2 ^ j) ++ number_bits j v)) h)
 
--- what a number has above so many bits
+-- what a number has above n bits
 pub above : (c x y : ℕ) → number_bits c (x * 2 ^ c + y) ≡ number_bits c y
 above c x y = let z : c + 0 ≡ c = omega arith in ap (λ (n : ℕ). number_bits c (x * 2 ^ n + y)) (sym z) ∙ higher_bits c 0 x y
 
--- a number of so many bits, and another behind it
+-- a number of n bits, and another after it
 pub joined_bits : (a c x y : ℕ) → y < 2 ^ c → number_bits (a + c) (x * 2 ^ c + y) ≡ number_bits a x ++ number_bits c y
 joined_bits a c x y h =
     let e : (x * 2 ^ c + y) / 2 ^ c ≡ x = div-mul-add x (2 ^ c) y h in
@@ -57,8 +56,8 @@ joins done count v part few h g =
     record { unwrapped = mod-eq_of_lt room; small = small; low = omega arith }
 
 -- the bits in hand, in two parts
-hand_bits : (k left v : ℕ) → k ≤ left → number_bits left v ≡ number_bits k (high_part k left v) ++ number_bits (left - k) v
-hand_bits k left v h =
+unread_bits : (k left v : ℕ) → k ≤ left → number_bits left v ≡ number_bits k (high_part k left v) ++ number_bits (left - k) v
+unread_bits k left v h =
     let j = left - k in
     let s : left ≡ k + j = omega arith in
     let whole : (v / 2 ^ j) / 2 ^ k * 2 ^ k + v / 2 ^ j % 2 ^ k ≡ v / 2 ^ j = div-add-mod' (v / 2 ^ j) (2 ^ k) in
@@ -66,17 +65,17 @@ hand_bits k left v h =
     ap (λ (n : ℕ). number_bits n v) s ∙ (split_bits j k v ∙ ap (λ (l : List Bool). l ++ number_bits j v) low)
 
 -- the next byte is begun
-pub begins_next : (bits : List Bool) (bytes : List ℕ) (h : Hand) (b : ℕ) → h.left ≡ 0 → b < 256 → (before_next h.last ≡ 255 → b < 128) → HasDrawn bits bytes h
+pub begins_next : (bits : List Bool) (bytes : List ℕ) (h : BitInState) (b : ℕ) → h.left ≡ 0 → b < 256 → (before_next h.last ≡ 255 → b < 128) → HasDrawn bits bytes h
     → HasBegun bits (bytes ++ b ∷ []) (took h b)
 unfolding number_bits
 begins_next bits bytes h b none small low r =
     let same : before_next h.last ≡ last_from 0 bytes = ap before_next r.last ∙ before_last bytes in
-    let s : StandIn bits [] bytes = rw none at r.stands in
+    let s : Carries bits [] bytes = rw none at r.holds in
     let P : ℕ → Type 0 = λ k. Begun bits (number_bits (width_after k) b) (bytes ++ b ∷ []) in
     record { last = sym (last_of-push bytes b); begun = subst P (sym same) (begins bits bytes b s small (λ e. low (same ∙ e))) }
 
 -- spare bits are taken, one or more
-takes_part : (bits front spare : List Bool) (bytes : List ℕ) → 0 < length front → Begun bits (front ++ spare) bytes → StandIn (bits ++ front) spare bytes
+takes_part : (bits front spare : List Bool) (bytes : List ℕ) → 0 < length front → Begun bits (front ++ spare) bytes → Carries (bits ++ front) spare bytes
 takes_part bits front spare bytes some s = record {
   each = s.each;
   stuffed = s.stuffed;
@@ -85,21 +84,21 @@ takes_part bits front spare bytes some s = record {
 }
 
 -- the first bits in hand are given
-pub gives_front : (bits front : List Bool) (bytes : List ℕ) (h : Hand) (k : ℕ) → 0 < length front → number_bits h.left (before_next h.last) ≡ front ++ number_bits k (before_next h.last) → HasBegun bits bytes h
+pub gives_front : (bits front : List Bool) (bytes : List ℕ) (h : BitInState) (k : ℕ) → 0 < length front → number_bits h.left (before_next h.last) ≡ front ++ number_bits k (before_next h.last) → HasBegun bits bytes h
     → HasDrawn (bits ++ front) bytes (record h { left = k })
 gives_front bits front bytes h k some e r =
     let P : List Bool → Type 0 = λ l. Begun bits l bytes in
-    record { last = r.last; stands = takes_part bits front (number_bits k (before_next h.last)) bytes some (subst P e r.begun) }
+    record { last = r.last; holds = takes_part bits front (number_bits k (before_next h.last)) bytes some (subst P e r.begun) }
 
 -- as a part of a number
-pub gives_part : (bits : List Bool) (bytes : List ℕ) (h : Hand) (k : ℕ) → 0 < k → k ≤ h.left → HasBegun bits bytes h
+pub gives_part : (bits : List Bool) (bytes : List ℕ) (h : BitInState) (k : ℕ) → 0 < k → k ≤ h.left → HasBegun bits bytes h
     → HasDrawn (bits ++ number_bits k (high_part k h.left (before_next h.last))) bytes (record h { left = h.left - k })
 gives_part bits bytes h k some few r =
     let v = before_next h.last in
-    gives_front bits (number_bits k (high_part k h.left v)) bytes h (h.left - k) (omega (arith, number_bits-length k (high_part k h.left v))) (hand_bits k h.left v few) r
+    gives_front bits (number_bits k (high_part k h.left v)) bytes h (h.left - k) (omega (arith, number_bits-length k (high_part k h.left v))) (unread_bits k h.left v few) r
 
 -- the next byte of a piece is begun
-pub begins_piece : (bits : List Bool) (bytes piece : List ℕ) (at b w : ℕ) (h : Hand) → h.left ≡ 0 → IsBytes piece → next_of (before_next h.last) (drop at piece) ≡ Byte b → w ≡ width_after (before_next h.last)
+pub begins_piece : (bits : List Bool) (bytes piece : List ℕ) (at b w : ℕ) (h : BitInState) → h.left ≡ 0 → IsBytes piece → next_of (before_next h.last) (drop at piece) ≡ Ok b → w ≡ width_after (before_next h.last)
     → HasDrawn bits bytes h → HasBegun bits (bytes ++ slice_range piece at (at + 1)) (record h { last = Some b; left = w })
 begins_piece bits bytes piece at b w h none each e width r =
     let next = byte_next (before_next h.last) (drop at piece) b e in

@@ -1,4 +1,4 @@
--- Bytes, and parts of a piece behind them.
+-- Bytes, and parts of a piece after them.
 use Rattle.std.proofs.Common.{◌≡◌, ◌≤◌, ◌+◌, ◌-◌, ℕ, List, ◌++◌, take, drop, sym, ◌∙◌, ap, arith, append_assoc}
 use Rattle.std.specs.List.{slice_range}
 use Rattle.std.proofs.lemmas.List.{drop-drop}

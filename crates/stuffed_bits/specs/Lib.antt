@@ -1,6 +1,6 @@
-pub mod Stands
-pub mod Hand
-pub mod Pen
+pub mod Carried
+pub mod BitInState
+pub mod BitWriterState
 pub mod BitsRead
 pub mod NumbersRead
 pub mod RunsRead

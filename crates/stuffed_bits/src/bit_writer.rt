@@ -1,8 +1,7 @@
 //! The writer: bits one at a time, into a buffer.
-ghost use Rattle.std.specs.Prelude.{◌≡◌, ◌<◌, ◌≤◌, ◌+◌, ◌++◌, ◌∷◌, ◌↔◌, ◌^◌, ℕ, List, [], Bool, length, take, drop, IfOk, IfErr, IsErr};
-ghost use Rattle.codestream_model.specs.StuffedBits.{packing};
-ghost use Rattle.stuffed_bits.specs.Pen.{no_bit};
-ghost use Rattle.stuffed_bits.specs.BitsWritten.{HasWritten, begun, filled, added, reach};
+ghost use Rattle.std.specs.Prelude.{◌≡◌, ◌<◌, ◌≤◌, ◌+◌, ◌^◌, ℕ, List, [], Bool, length, drop, IfOk, IfErr};
+ghost use Rattle.stuffed_bits.specs.BitWriterState.{no_bit};
+ghost use Rattle.stuffed_bits.specs.BitsWritten.{HasWritten, WritesBit, IsFullFor, ArePacked, IsFullAtEnd, begun, filled, added};
 
 use crate::width::{FF, width_after};
 use std::marker::Model;
@@ -24,9 +23,9 @@ pub struct BitWriter {
 
 impl Model for BitWriter {
     ghost use Rattle.std.specs.Prelude.{◌≤◌, ◌+◌, ◌*◌, ◌^◌};
-    ghost use Rattle.stuffed_bits.specs.Pen.{Pen};
+    ghost use Rattle.stuffed_bits.specs.BitWriterState.{BitWriterState};
 
-    ghost Value = { Pen };
+    ghost Value = { BitWriterState };
 
     ghost view = { λ w. record { len = w.len; last = w.last; free = w.free } };
 
@@ -34,10 +33,10 @@ impl Model for BitWriter {
 }
 
 impl BitWriter {
-    /// A writer that stands before its first bit.
+    /// A writer before its first bit.
     pub fn new() -> BitWriter
         ensures empty { result ≡ no_bit }
-        ensures stands { (buf : List ℕ) → HasWritten [] buf result }
+        ensures none { (buf : List ℕ) → HasWritten [] buf result }
     {
         BitWriter {
             len: 0,
@@ -84,15 +83,16 @@ impl BitWriter {
     ///
     /// # Errors
     ///
-    /// `Full` where the bits so far and this one reach into more bytes than `buf` has; nothing changed.
+    /// `Full` where the bits so far and this one reach into more bytes than `buf` has; nothing
+    /// changed.
     pub fn put(&mut self, bit: bool, buf: &mut [u8]) -> Result<(), Full>
         requires { self.old.len ≤ length buf.old }
-        ensures full { (bits : List Bool) → HasWritten bits buf.old self.old → IsErr result ↔ (length buf.old < reach (bits ++ bit ∷ [])) }
-        ensures stands { IfOk result (λ _. (bits : List Bool) → HasWritten bits buf.old self.old → HasWritten (bits ++ bit ∷ []) buf.new self.new) }
+        ensures full { IsFullFor bit self.old buf.old result }
+        ensures writes { IfOk result (λ _. WritesBit bit self.old self.new buf.old buf.new) }
         ensures begun { IfOk result (λ _. 0 < self.new.len) }
         ensures onward { self.old.len ≤ self.new.len }
         ensures within { self.new.len ≤ length buf.new }
-        ensures behind { drop self.new.len buf.new ≡ drop self.new.len buf.old }
+        ensures beyond { drop self.new.len buf.new ≡ drop self.new.len buf.old }
         ensures unchanged { IfErr result (λ _. (self.new ≡ self.old) × (buf.new ≡ buf.old)) }
     {
         if self.free == 0 && self.len == buf.len() {
@@ -103,10 +103,10 @@ impl BitWriter {
         Ok(())
     }
 
-    /// Closes the bits that were written, and answers the number of their bytes. A bit was put before it.
+    /// Closes the bits that were written, and answers the number of their bytes. A bit was put before.
     ///
-    /// `buf` is as the call before left it. The pad bits are 0, and a last byte FF is followed by a byte 0. The writer stands
-    /// before the first of other bits then.
+    /// `buf` is as the call before left it. The pad bits are 0, and a last byte FF is followed by a
+    /// byte 0. Then the writer is before the first of other bits.
     ///
     /// # Errors
     ///
@@ -114,10 +114,10 @@ impl BitWriter {
     pub fn finish(&mut self, buf: &mut [u8]) -> Result<usize, Full>
         requires begun { 0 < self.old.len }
         requires inside { self.old.len ≤ length buf.old }
-        ensures full { (bits : List Bool) → HasWritten bits buf.old self.old → IsErr result ↔ (length buf.old < length (packing bits)) }
-        ensures packed { IfOk result (λ n. (bits : List Bool) → HasWritten bits buf.old self.old → take n buf.new ≡ packing bits) }
+        ensures full { IsFullAtEnd self.old buf.old result }
+        ensures packed { IfOk result (ArePacked self.old buf.old buf.new) }
         ensures within { IfOk result (λ n. n ≤ length buf.new) }
-        ensures behind { IfOk result (λ n. drop n buf.new ≡ drop n buf.old) }
+        ensures beyond { IfOk result (λ n. drop n buf.new ≡ drop n buf.old) }
         ensures empty { IfOk result (λ _. self.new ≡ no_bit) }
         ensures unchanged { IfErr result (λ _. (self.new ≡ self.old) × (buf.new ≡ buf.old)) }
     {

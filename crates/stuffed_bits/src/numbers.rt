@@ -1,26 +1,17 @@
 //! The reader's numbers of several bits: a byte gives as many at once as are wanted.
-ghost use Rattle.std.specs.Prelude.{◌≡◌, ◌<◌, ◌≤◌, ◌+◌, ◌-◌, ◌++◌, ◌^◌, ℕ, List, Bool, length, drop};
+ghost use Rattle.std.specs.Prelude.{◌≡◌, ◌<◌, ◌≤◌, ◌-◌, ◌^◌, length, IfOk, OnOk};
 ghost use Rattle.codestream_model.specs.StuffedBits.{number_bits};
-ghost use Rattle.stuffed_bits.specs.Stands.{before_next};
-ghost use Rattle.stuffed_bits.specs.Hand.{part_bits, IsOfNumber};
-ghost use Rattle.stuffed_bits.specs.NumbersRead.{AnswersNumber, GivesNumber, KeepsNumber, high_part};
+ghost use Rattle.stuffed_bits.specs.Carried.{before_next};
+ghost use Rattle.stuffed_bits.specs.BitInState.{part_bits, IsOfNumber};
+ghost use Rattle.stuffed_bits.specs.BitsRead.{Keeps};
+ghost use Rattle.stuffed_bits.specs.NumbersRead.{AnswersNumber, GivesNumber, high_part};
 
-use crate::bit_in::{BitIn, Ready};
+use crate::bit_in::BitIn;
 use crate::part::Part;
-
-/// What is read of a piece of bytes where a number is wanted.
-#[derive(Clone, Copy, Debug, PartialEq, Eq)]
-pub enum NumberOut {
-    /// The number.
-    Number(u32),
-    /// The piece ends before its last bit. The same call with a further piece goes on.
-    Need,
-    /// A byte after FF has its top bit set before its last bit.
-    Stuffed,
-}
+use crate::stop::Stop;
 
 impl BitIn {
-    /// The number that so many bits of the byte in hand spell, the next ones.
+    /// The number that the next `count` bits of the last byte spell.
     fn give_part(&mut self, count: u8) -> u32
         requires some { count ≤ self.old.left }
         requires few { self.old.left ≤ 8 }
@@ -53,20 +44,24 @@ impl BitIn {
 
     /// Reads the number that the next `width` bits spell, the greatest first; 0 where `width` is 0.
     ///
-    /// `piece` and `at` are as for `bit`. After `Need` only the same call with a further piece may
-    /// follow, and after `Stuffed` none.
+    /// `piece` and `at` are as for `bit`.
+    ///
+    /// # Errors
+    ///
+    /// `Need` where the piece ends before the last bit: then only the same call with a further piece
+    /// may follow. `Stuffed` where the stuffing is broken before the last bit: then none may.
     #[inline(always)]
-    pub fn number(&mut self, width: u8, piece: &[u8], at: &mut usize) -> NumberOut
+    pub fn number(&mut self, width: u8, piece: &[u8], at: &mut usize) -> Result<u32, Stop>
         requires low { width ≤ 25 }
         requires inside { at.old ≤ length piece.now }
         requires own { IsOfNumber width self.old.part }
         ensures exact { AnswersNumber width self.old piece.now at.old result }
-        ensures stands { GivesNumber width self.old self.new piece.now at.old at.new result }
-        ensures waits { KeepsNumber self.old self.new piece.now at.old at.new result }
-        ensures small { (n : ℕ) → result ≡ NumberOut.Number n → n < 2 ^ width }
-        ensures free { (n : ℕ) → result ≡ NumberOut.Number n → self.new.part ≡ Part.Nothing }
-        ensures own { result ≡ NumberOut.Need → IsOfNumber width self.new.part }
-        ensures whole { result ≡ NumberOut.Need → at.new ≡ length piece.now }
+        ensures gives { GivesNumber width self.old self.new piece.now at.old at.new result }
+        ensures waits { result ≡ Err Stop.Need → Keeps self.old self.new piece.now at.old at.new }
+        ensures small { IfOk result (λ n. n < 2 ^ width) }
+        ensures free { OnOk result (self.new.part ≡ Part.Nothing) }
+        ensures own { result ≡ Err Stop.Need → IsOfNumber width self.new.part }
+        ensures whole { result ≡ Err Stop.Need → at.new ≡ length piece.now }
         ensures onward { at.old ≤ at.new }
         ensures within { at.new ≤ length piece.now }
     {
@@ -74,20 +69,15 @@ impl BitIn {
         let mut value = first;
         let mut wanted = width - count;
         while wanted > 0 {
-            match self.ready(piece, at) {
-                Ready::Need => {
-                    self.part = Part::Number(value, width - wanted);
-                    return NumberOut::Need;
-                }
-                Ready::Stuffed => return NumberOut::Stuffed,
-                Ready::Yes => {
-                    let count = wanted.min(self.left);
-                    let part = self.give_part(count);
-                    value = (value << count) + part;
-                    wanted -= count;
-                }
+            if let Err(stopped) = self.ready(piece, at) {
+                self.part = Part::Number(value, width - wanted);
+                return Err(stopped);
             }
+            let count = wanted.min(self.left);
+            let part = self.give_part(count);
+            value = (value << count) + part;
+            wanted -= count;
         }
-        NumberOut::Number(value)
+        Ok(value)
     }
 }

@@ -7,6 +7,6 @@ pub enum Part {
     Nothing,
     /// The number that the first bits of a number spell, and how many they are.
     Number(u32, u8),
-    /// So many bits of one kind.
+    /// A number of bits of one kind.
     Run(bool, u8),
 }

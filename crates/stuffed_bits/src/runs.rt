@@ -1,29 +1,19 @@
 //! The reader's runs of equal bits: a byte gives as many at once as it has.
-ghost use Rattle.std.specs.Prelude.{◌≡◌, ◌<◌, ◌≤◌, ◌+◌, ◌++◌, ℕ, List, Bool, length, drop, replicate};
+ghost use Rattle.std.specs.Prelude.{◌≡◌, ◌<◌, ◌≤◌, ◌++◌, length, replicate, IfOk, OnOk};
 ghost use Rattle.codestream_model.specs.StuffedBits.{number_bits};
-ghost use Rattle.stuffed_bits.specs.Hand.{part_bits, IsOfRun};
-ghost use Rattle.stuffed_bits.specs.BitsRead.{HasDrawn, HasBegun};
-ghost use Rattle.stuffed_bits.specs.RunsRead.{AnswersRun, GivesRun, KeepsRun, BeginsWith, others_in, run_part_bits, IsRunPartOf};
+ghost use Rattle.stuffed_bits.specs.BitInState.{part_bits, IsOfRun};
+ghost use Rattle.stuffed_bits.specs.BitsRead.{Keeps};
+ghost use Rattle.stuffed_bits.specs.RunsRead.{AnswersRun, GivesRun, DrawsPart, BeginsWith, others_in, IsRunPartOf};
 
-use crate::bit_in::{BitIn, Ready};
+use crate::bit_in::BitIn;
 use crate::part::Part;
-
-/// What is read of a piece of bytes where a run of equal bits is wanted.
-#[derive(Clone, Copy, Debug, PartialEq, Eq)]
-pub enum RunOut {
-    /// How many bits the run has.
-    Run(u8),
-    /// The piece ends before the run does. The same call with a further piece goes on.
-    Need,
-    /// A byte after FF has its top bit set before the run ends.
-    Stuffed,
-}
+use crate::stop::Stop;
 
 /// A part of a run: its bits of one byte.
 enum RunPart {
-    /// So many bits and one of the other kind.
+    /// This many bits and one of the other kind.
     Ended(u8),
-    /// So many bits.
+    /// This many bits.
     Whole(u8),
 }
 
@@ -47,13 +37,13 @@ fn first_run(of: bool, left: u8, byte: u8) -> u8
 }
 
 impl BitIn {
-    /// The next bits of the byte in hand, as long as they are of this kind, and up to so many.
+    /// The next bits of the last byte, as long as they are of this kind, and at most `wanted`.
     fn give_run(&mut self, of: bool, wanted: u8) -> RunPart
         requires some { 0 < self.old.left }
         requires wanted { 0 < wanted }
         ensures part { IsRunPartOf wanted result }
         ensures kept { self.new.part ≡ self.old.part }
-        ensures stands { (bits : List Bool) (bytes : List ℕ) → HasBegun bits bytes self.old → HasDrawn (bits ++ run_part_bits of result) bytes self.new }
+        ensures draws { DrawsPart of self.old self.new result }
     {
         let run = first_run(of, self.left, self.before());
         if run < self.left && run < wanted {
@@ -88,44 +78,45 @@ impl BitIn {
         }
     }
 
-    /// Reads a run of bits of one kind, and the bit of the other kind that ends it; where it has `most`
-    /// bits, only these.
+    /// Reads a run of bits of one kind, and the bit of the other kind that ends it; where it has
+    /// `most` bits, only these. Answers how many bits the run has.
     ///
-    /// `piece` and `at` are as for `bit`. After `Need` only the same call with a further piece may
-    /// follow, and after `Stuffed` none.
+    /// `piece` and `at` are as for `bit`.
+    ///
+    /// # Errors
+    ///
+    /// `Need` where the piece ends before the run does: then only the same call with a further piece
+    /// may follow. `Stuffed` where the stuffing is broken before the run ends: then none may.
     #[inline(always)]
-    pub fn run(&mut self, of: bool, most: u8, piece: &[u8], at: &mut usize) -> RunOut
+    pub fn run(&mut self, of: bool, most: u8, piece: &[u8], at: &mut usize) -> Result<u8, Stop>
         requires inside { at.old ≤ length piece.now }
         requires own { IsOfRun of self.old.part }
         ensures exact { AnswersRun of most self.old piece.now at.old result }
-        ensures stands { GivesRun of most self.old self.new piece.now at.old at.new result }
-        ensures waits { KeepsRun self.old self.new piece.now at.old at.new result }
-        ensures free { (n : ℕ) → result ≡ RunOut.Run n → n < most → self.new.part ≡ Part.Nothing }
-        ensures fresh { self.old.part ≡ Part.Nothing → (n : ℕ) → result ≡ RunOut.Run n → self.new.part ≡ Part.Nothing }
-        ensures own { result ≡ RunOut.Need → IsOfRun of self.new.part }
-        ensures whole { result ≡ RunOut.Need → at.new ≡ length piece.now }
-        ensures few { (n : ℕ) → result ≡ RunOut.Run n → n ≤ most }
+        ensures gives { GivesRun of most self.old self.new piece.now at.old at.new result }
+        ensures waits { result ≡ Err Stop.Need → Keeps self.old self.new piece.now at.old at.new }
+        ensures free { IfOk result (λ n. n < most → self.new.part ≡ Part.Nothing) }
+        ensures fresh { self.old.part ≡ Part.Nothing → OnOk result (self.new.part ≡ Part.Nothing) }
+        ensures own { result ≡ Err Stop.Need → IsOfRun of self.new.part }
+        ensures whole { result ≡ Err Stop.Need → at.new ≡ length piece.now }
+        ensures few { IfOk result (λ n. n ≤ most) }
         ensures onward { at.old ≤ at.new }
         ensures within { at.new ≤ length piece.now }
     {
         let before = self.take_run(of, most);
         if before == most {
-            return RunOut::Run(most);
+            return Ok(most);
         }
         let mut count = before;
         while count < most {
-            match self.ready(piece, at) {
-                Ready::Need => {
-                    self.part = Part::Run(of, count);
-                    return RunOut::Need;
-                }
-                Ready::Stuffed => return RunOut::Stuffed,
-                Ready::Yes => match self.give_run(of, most - count) {
-                    RunPart::Ended(more) => return RunOut::Run(count + more),
-                    RunPart::Whole(more) => count += more,
-                },
+            if let Err(stopped) = self.ready(piece, at) {
+                self.part = Part::Run(of, count);
+                return Err(stopped);
+            }
+            match self.give_run(of, most - count) {
+                RunPart::Ended(more) => return Ok(count + more),
+                RunPart::Whole(more) => count += more,
             }
         }
-        RunOut::Run(count)
+        Ok(count)
     }
 }

@@ -1,8 +1,9 @@
-//! Bits that were worked out by hand from the bytes: eight in each, seven behind FF.
+//! Bits that were worked out by hand from the bytes: eight in each, seven after FF.
 use super::*;
 
-/// Bytes and the bits that are read of them; where the reader stands then; what closing them answers, and where.
-type ReadRow<'a> = (&'a [u8], &'a [u8], usize, (BitOut, usize));
+/// Bytes and the bits that are read of them; the index after that; what closing them answers, and the
+/// index then.
+type ReadRow<'a> = (&'a [u8], &'a [u8], usize, (Result<(), Stop>, usize));
 
 const C880: [u8; 10] = [1, 1, 0, 0, 1, 0, 0, 0, 1, 0];
 
@@ -17,37 +18,34 @@ const X01FF: [u8; 16] = [0, 0, 0, 0, 0, 0, 0, 1, 1, 1, 1, 1, 1, 1, 1, 1];
 #[test]
 fn bits_are_read_and_closed(rt: HostRuntime) {
     let rows: [ReadRow; 9] = [
-        (&[0xC8, 0x80, 0xAA], &C880, 2, (BitOut::Bit(false), 2)),
-        (&[0xEF, 0x64], &EF64, 2, (BitOut::Bit(false), 2)),
-        (&[0xEF, 0xBF, 0xC0], &EFBFC0, 3, (BitOut::Bit(false), 3)),
-        (&[0xFF, 0x55, 0xFF], &FF55, 2, (BitOut::Bit(false), 2)),
-        (&[0xFF, 0x7F, 0x80], &FF55[..9], 2, (BitOut::Bit(false), 2)),
-        (
-            &[0x01, 0xFF, 0x7F, 0xFF],
-            &X01FF,
-            2,
-            (BitOut::Bit(false), 3),
-        ),
-        (&[0x01, 0xFF], &X01FF, 2, (BitOut::Need, 2)),
-        (&[0x01, 0xFF, 0x80], &X01FF, 2, (BitOut::Stuffed, 2)),
-        (&[0x01, 0xFF], &X01FF[..9], 2, (BitOut::Need, 2)),
+        (&[0xC8, 0x80, 0xAA], &C880, 2, (Ok(()), 2)),
+        (&[0xEF, 0x64], &EF64, 2, (Ok(()), 2)),
+        (&[0xEF, 0xBF, 0xC0], &EFBFC0, 3, (Ok(()), 3)),
+        (&[0xFF, 0x55, 0xFF], &FF55, 2, (Ok(()), 2)),
+        (&[0xFF, 0x7F, 0x80], &FF55[..9], 2, (Ok(()), 2)),
+        (&[0x01, 0xFF, 0x7F, 0xFF], &X01FF, 2, (Ok(()), 3)),
+        (&[0x01, 0xFF], &X01FF, 2, (Err(Stop::Need), 2)),
+        (&[0x01, 0xFF, 0x80], &X01FF, 2, (Err(Stop::Stuffed), 2)),
+        (&[0x01, 0xFF], &X01FF[..9], 2, (Err(Stop::Need), 2)),
     ];
     for (row, (bytes, bits, used, (closed, end))) in rows.iter().enumerate() {
         let mut reader = BitIn::new();
         let mut at = 0;
-        assert_eq!(rt; reader.bit(&[], &mut at), BitOut::Need, "before row {row}");
+        assert_eq!(rt;
+            reader.bit(&[], &mut at),
+            Err(Stop::Need),
+            "before row {row}"
+        );
         for (i, bit) in bits.iter().enumerate() {
-            if bytes.len() < at {
-                break;
-            }
-            let out = reader.bit(bytes, &mut at);
-            assert_eq!(rt; out, BitOut::Bit(*bit == 1), "bit {i} of row {row}");
-            if let BitOut::Bit(_) = out {
-                if i + 1 == bits.len() {
-                    assert_eq!(rt; at, *used, "row {row}");
-                    assert_eq!(rt; reader.close(bytes, &mut at), *closed, "row {row}");
-                    assert_eq!(rt; at, *end, "row {row}");
-                }
+            let Ok(read) = reader.bit(bytes, &mut at) else {
+                assert!(rt; false, "bit {i} of row {row} isn't read");
+                return;
+            };
+            assert_eq!(rt; read, *bit == 1, "bit {i} of row {row}");
+            if i + 1 == bits.len() {
+                assert_eq!(rt; at, *used, "row {row}");
+                assert_eq!(rt; reader.close(bytes, &mut at), *closed, "row {row}");
+                assert_eq!(rt; at, *end, "row {row}");
             }
         }
     }
@@ -58,13 +56,11 @@ fn a_stuffed_byte_gives_no_bit(rt: HostRuntime) {
     let mut reader = BitIn::new();
     let mut at = 0;
     for _ in 0..8 {
-        if at <= 1 {
-            assert_eq!(rt; reader.bit(&[0xFF], &mut at), BitOut::Bit(true));
-        }
+        assert_eq!(rt; reader.bit(&[0xFF], &mut at), Ok(true));
     }
     let mut further = 0;
-    assert_eq!(rt; reader.bit(&[], &mut further), BitOut::Need);
-    assert_eq!(rt; reader.bit(&[0x80], &mut further), BitOut::Stuffed);
+    assert_eq!(rt; reader.bit(&[], &mut further), Err(Stop::Need));
+    assert_eq!(rt; reader.bit(&[0x80], &mut further), Err(Stop::Stuffed));
     assert_eq!(rt; further, 0);
 }
 
@@ -73,19 +69,16 @@ fn numbers_are_read_across_bytes(rt: HostRuntime) {
     let bytes = [0xFF, 0x55, 0xC8];
     let mut reader = BitIn::new();
     let mut at = 0;
-    assert_eq!(rt; reader.number(0, &bytes, &mut at), NumberOut::Number(0));
+    assert_eq!(rt; reader.number(0, &bytes, &mut at), Ok(0));
     assert_eq!(rt; at, 0);
-    assert_eq!(rt; reader.number(3, &bytes, &mut at), NumberOut::Number(0b111));
+    assert_eq!(rt; reader.number(3, &bytes, &mut at), Ok(0b111));
     assert_eq!(rt; at, 1);
-    assert_eq!(rt;
-        reader.number(12, &bytes, &mut at),
-        NumberOut::Number(0b1111_1101_0101)
-    );
-    assert_eq!(rt; reader.bit(&bytes, &mut at), BitOut::Bit(true));
-    assert_eq!(rt; reader.number(7, &bytes, &mut at), NumberOut::Number(0x48));
+    assert_eq!(rt; reader.number(12, &bytes, &mut at), Ok(0b1111_1101_0101));
+    assert_eq!(rt; reader.bit(&bytes, &mut at), Ok(true));
+    assert_eq!(rt; reader.number(7, &bytes, &mut at), Ok(0x48));
     assert_eq!(rt; at, 3);
-    assert_eq!(rt; reader.number(0, &bytes, &mut at), NumberOut::Number(0));
-    assert_eq!(rt; reader.number(1, &bytes, &mut at), NumberOut::Need);
+    assert_eq!(rt; reader.number(0, &bytes, &mut at), Ok(0));
+    assert_eq!(rt; reader.number(1, &bytes, &mut at), Err(Stop::Need));
 }
 
 #[test]
@@ -93,37 +86,28 @@ fn the_longest_number_reaches_into_five_bytes(rt: HostRuntime) {
     let bytes = [0x01, 0x23, 0xFF, 0x7F, 0x80];
     let mut reader = BitIn::new();
     let mut at = 0;
-    assert_eq!(rt; reader.number(7, &bytes, &mut at), NumberOut::Number(0));
-    assert_eq!(rt;
-        reader.number(25, &bytes, &mut at),
-        NumberOut::Number(0x123_FFFF)
-    );
+    assert_eq!(rt; reader.number(7, &bytes, &mut at), Ok(0));
+    assert_eq!(rt; reader.number(25, &bytes, &mut at), Ok(0x123_FFFF));
     assert_eq!(rt; at, 5);
     let mut other = BitIn::new();
     let mut start = 0;
-    assert_eq!(rt;
-        other.number(25, &bytes, &mut start),
-        NumberOut::Number(0x2_47FF)
-    );
+    assert_eq!(rt; other.number(25, &bytes, &mut start), Ok(0x2_47FF));
     assert_eq!(rt; start, 4);
 }
 
 #[test]
 fn a_number_that_is_cut_or_broken_is_not_read(rt: HostRuntime) {
     let mut at = 0;
-    assert_eq!(rt;
-        BitIn::new().number(15, &[0xFF, 0x7F], &mut at),
-        NumberOut::Number(0x7FFF)
-    );
+    assert_eq!(rt; BitIn::new().number(15, &[0xFF, 0x7F], &mut at), Ok(0x7FFF));
     let mut cut = 0;
     assert_eq!(rt;
         BitIn::new().number(16, &[0xFF, 0x7F], &mut cut),
-        NumberOut::Need
+        Err(Stop::Need)
     );
     let mut broken = 0;
     assert_eq!(rt;
         BitIn::new().number(9, &[0xFF, 0x80], &mut broken),
-        NumberOut::Stuffed
+        Err(Stop::Stuffed)
     );
 }
 
@@ -131,12 +115,9 @@ fn a_number_that_is_cut_or_broken_is_not_read(rt: HostRuntime) {
 fn a_number_goes_on_in_a_further_piece(rt: HostRuntime) {
     let mut reader = BitIn::new();
     let mut at = 0;
-    assert_eq!(rt; reader.number(8, &[0xFF], &mut at), NumberOut::Number(0xFF));
+    assert_eq!(rt; reader.number(8, &[0xFF], &mut at), Ok(0xFF));
     let mut further = 0;
-    assert_eq!(rt;
-        reader.number(7, &[0x55], &mut further),
-        NumberOut::Number(0x55)
-    );
+    assert_eq!(rt; reader.number(7, &[0x55], &mut further), Ok(0x55));
     assert_eq!(rt; further, 1);
 }
 
@@ -144,19 +125,16 @@ fn a_number_goes_on_in_a_further_piece(rt: HostRuntime) {
 fn a_number_is_read_byte_by_byte(rt: HostRuntime) {
     let mut reader = BitIn::new();
     let mut first = 0;
-    assert_eq!(rt; reader.number(25, &[0x01], &mut first), NumberOut::Need);
+    assert_eq!(rt; reader.number(25, &[0x01], &mut first), Err(Stop::Need));
     assert_eq!(rt; first, 1);
     let mut second = 0;
     assert_eq!(rt;
         reader.number(25, &[0x23, 0xFF], &mut second),
-        NumberOut::Need
+        Err(Stop::Need)
     );
     assert_eq!(rt; second, 2);
     let mut last = 0;
-    assert_eq!(rt;
-        reader.number(25, &[0x7F, 0x80], &mut last),
-        NumberOut::Number(0x2_47FF)
-    );
+    assert_eq!(rt; reader.number(25, &[0x7F, 0x80], &mut last), Ok(0x2_47FF));
     assert_eq!(rt; last, 1);
 }
 
@@ -164,17 +142,14 @@ fn a_number_is_read_byte_by_byte(rt: HostRuntime) {
 fn a_run_is_read_byte_by_byte(rt: HostRuntime) {
     let mut reader = BitIn::new();
     let mut first = 0;
-    assert_eq!(rt; reader.run(false, 75, &[0x1F], &mut first), RunOut::Run(3));
+    assert_eq!(rt; reader.run(false, 75, &[0x1F], &mut first), Ok(3));
     let mut second = 0;
-    assert_eq!(rt; reader.run(true, 22, &[0xFF], &mut second), RunOut::Need);
+    assert_eq!(rt; reader.run(true, 22, &[0xFF], &mut second), Err(Stop::Need));
     assert_eq!(rt; second, 1);
     let mut third = 0;
-    assert_eq!(rt; reader.run(true, 22, &[0x7F], &mut third), RunOut::Need);
+    assert_eq!(rt; reader.run(true, 22, &[0x7F], &mut third), Err(Stop::Need));
     let mut last = 0;
-    assert_eq!(rt;
-        reader.run(true, 22, &[0x40], &mut last),
-        RunOut::Run(4 + 8 + 7)
-    );
+    assert_eq!(rt; reader.run(true, 22, &[0x40], &mut last), Ok(4 + 8 + 7));
     assert_eq!(rt; last, 1);
 }
 
@@ -183,18 +158,15 @@ fn runs_are_read_with_the_bit_that_ends_them(rt: HostRuntime) {
     let bytes = [0x1F, 0xFF, 0x7F, 0x40];
     let mut reader = BitIn::new();
     let mut at = 0;
-    assert_eq!(rt; reader.run(false, 75, &bytes, &mut at), RunOut::Run(3));
+    assert_eq!(rt; reader.run(false, 75, &bytes, &mut at), Ok(3));
     assert_eq!(rt; at, 1);
-    assert_eq!(rt;
-        reader.run(true, 22, &bytes, &mut at),
-        RunOut::Run(4 + 8 + 7)
-    );
+    assert_eq!(rt; reader.run(true, 22, &bytes, &mut at), Ok(4 + 8 + 7));
     assert_eq!(rt; at, 4);
-    assert_eq!(rt; reader.run(false, 75, &bytes, &mut at), RunOut::Run(0));
-    assert_eq!(rt; reader.run(false, 5, &bytes, &mut at), RunOut::Run(5));
-    assert_eq!(rt; reader.run(true, 0, &bytes, &mut at), RunOut::Run(0));
-    assert_eq!(rt; reader.run(true, 9, &bytes, &mut at), RunOut::Run(0));
-    assert_eq!(rt; reader.run(true, 9, &bytes, &mut at), RunOut::Need);
+    assert_eq!(rt; reader.run(false, 75, &bytes, &mut at), Ok(0));
+    assert_eq!(rt; reader.run(false, 5, &bytes, &mut at), Ok(5));
+    assert_eq!(rt; reader.run(true, 0, &bytes, &mut at), Ok(0));
+    assert_eq!(rt; reader.run(true, 9, &bytes, &mut at), Ok(0));
+    assert_eq!(rt; reader.run(true, 9, &bytes, &mut at), Err(Stop::Need));
 }
 
 #[test]
@@ -202,18 +174,15 @@ fn a_run_of_the_most_bits_takes_no_further_one(rt: HostRuntime) {
     let bytes = [0xFF, 0x7F, 0xFE];
     let mut reader = BitIn::new();
     let mut at = 0;
-    assert_eq!(rt; reader.run(true, 22, &bytes, &mut at), RunOut::Run(22));
-    assert_eq!(rt; reader.bit(&bytes, &mut at), BitOut::Bit(false));
-    assert_eq!(rt; reader.bit(&bytes, &mut at), BitOut::Need);
+    assert_eq!(rt; reader.run(true, 22, &bytes, &mut at), Ok(22));
+    assert_eq!(rt; reader.bit(&bytes, &mut at), Ok(false));
+    assert_eq!(rt; reader.bit(&bytes, &mut at), Err(Stop::Need));
     let mut whole = 0;
-    assert_eq!(rt;
-        BitIn::new().run(true, 8, &[0xFF, 0x80], &mut whole),
-        RunOut::Run(8)
-    );
+    assert_eq!(rt; BitIn::new().run(true, 8, &[0xFF, 0x80], &mut whole), Ok(8));
     let mut broken = 0;
     assert_eq!(rt;
         BitIn::new().run(true, 9, &[0xFF, 0x80], &mut broken),
-        RunOut::Stuffed
+        Err(Stop::Stuffed)
     );
 }
 

@@ -1,29 +1,34 @@
--- Answers, one behind another: what is read down a path is read node by node.
-use Rattle.std.proofs.Common.{◌≡◌, ◌≢◌, ◌⊎◌, ◌-◌, ◌==◌, ℕ, zero, suc, Bool, true, false, List, [], ◌∷◌, ◌++◌, length, drop, Option, Some, None, refl, sym, ◌∙◌, ap, subst, inl, inr, arith, append_assoc, if◌then◌else◌}
+-- Answers, one after another: what is read down a path is read node by node.
+use Rattle.std.proofs.Common.{◌≡◌, ◌≢◌, ◌⊎◌, ◌-◌, ◌==◌, ℕ, zero, suc, Bool, true, false, List, [], ◌∷◌, ◌++◌, length, drop, Option, Some, None, Result, Ok, Err, refl, sym, ◌∙◌, ap, subst, inl, inr, arith, append_assoc, if◌then◌else◌}
 use Rattle.std.specs.List.{slice_range}
 use Rattle.std.proofs.lemmas.Bool.Decides.{eqb_tells}
 use Rattle.std.proofs.lemmas.List.{append-nil, length-append, drop_at, drop-drop}
 use Rattle.codestream_model.specs.StuffedBits.{packed_bits}
 use Rattle.codestream_model.specs.TagTrees.{Seat, levels_from}
 use Rattle.codestream_model.specs.PacketHeaderReading.{Node, Walked, Read, Got, AtEnd, Refused, and_then, read_bit, node_of, known_label, read_label, read_inclusion, read_planes}
-use Rattle.stuffed_bits.specs.Hand.{Hand}
-use Rattle.stuffed_bits.specs.BitsRead.{HasRead, answer_by}
-use Rattle.stuffed_bits.specs.declared.bit_in.BitOut.TheVariants.{Bit, Need as NoBit, Stuffed as Broken}
+use Rattle.stuffed_bits.specs.BitInState.{BitInState}
+use Rattle.stuffed_bits.specs.BitsRead.{HasRead, answer_by, given}
+use Rattle.stuffed_bits.specs.declared.stop.Stop.{Stop}
 use Rattle.stuffed_bits.proofs.ReadLemmas.{range_none}
-use Rattle.tag_tree.specs.Grove.{Grove}
-use Rattle.tag_tree.specs.LeafReading.{Knows, behind, none_left, IsAnswer, IsLabel}
-use Rattle.tag_tree.specs.declared.tree.TreeOut.{TreeOut}
-use Rattle.tag_tree.specs.declared.tree.TreeOut.TheVariants.{Value, Need, Stuffed, TooGreat}
+use Rattle.stuffed_bits.proofs.PartAnswers.{stopped_at}
+use Rattle.tag_tree.specs.TreeState.{TreeState}
+use Rattle.tag_tree.specs.LeafReading.{Knows, bits_after, none_left, IsAnswer, IsLabel}
+use Rattle.tag_tree.specs.LabelStops.{label_stop}
+use Rattle.tag_tree.specs.Kinds.{IsSilent, label_reading, levels_reading}
+use Rattle.tag_tree.specs.declared.kind.Kind.{Kind}
+use Rattle.tag_tree.specs.declared.kind.Kind.TheVariants.{Inclusion, Value}
+use Rattle.tag_tree.specs.declared.stop.LabelStop.{LabelStop}
+use Rattle.tag_tree.specs.declared.stop.LabelStop.TheVariants.{TooGreat}
 
--- the bits behind further ones
-behind_more : (done more rest : List Bool) (all : List ℕ) → behind done all ≡ more ++ rest → behind (done ++ more) all ≡ rest
+-- the bits after further ones
+behind_more : (done more rest : List Bool) (all : List ℕ) → bits_after done all ≡ more ++ rest → bits_after (done ++ more) all ≡ rest
 behind_more done more rest all e =
     let bits = (packed_bits all).bits in
     ap (λ (n : ℕ). drop n bits) (length-append done more)
     ∙ (sym (drop-drop (length more) (length done) bits) ∙ (ap (drop (length more)) e ∙ drop_at more rest (length more) refl))
 
--- an answer behind further bits is one behind the first
-widened : (done more : List Bool) (all taken : List ℕ) (t : Grove) (h : Hand) (out : TreeOut) (r : Read Walked) → behind done all ≡ more ++ behind (done ++ more) all
+-- an answer after further bits is one after the first
+widened : (done more : List Bool) (all taken : List ℕ) (t : TreeState) (h : BitInState) (out : Result ℕ LabelStop) (r : Read Walked) → bits_after done all ≡ more ++ bits_after (done ++ more) all
     → IsAnswer (done ++ more) all taken t h out r → IsAnswer done all taken t h out r
 widened done more all taken t h out (Got w rest) e a =
     let P : List Bool → Type 0 = λ l. HasRead l taken h in
@@ -32,30 +37,29 @@ widened done more all taken t h out AtEnd e a = a
 widened done more all taken t h out (Refused why) e a = a
 
 -- no label is answered where no bit is left
-pub none_is_no_label : (o : Option ℕ) (v : ℕ) → Value v ≡ none_left o → ⊥
-none_is_no_label None v e = cc
-none_is_no_label (Some place) v e = cc
+pub none_is_no_label : (o : Option ℕ) (v : ℕ) → Ok v ≡ none_left o → ⊥
+none_is_no_label o v e = cc
 
-pub same_label : (u v : ℕ) → Value u ≡ Value v → u ≡ v
+pub same_label : (u v : ℕ) → ◌≡◌ {A = Result ℕ LabelStop} (Ok u) (Ok v) → u ≡ v
 same_label u v e = cc
 
 -- a node's answer, and then that of the nodes below it
-pub answered_on : (first : Read Walked) (next : Walked → List Bool → Read Walked) (done : List Bool) (all taken after : List ℕ) (t u : Grove) (h k : Hand) (one two : TreeOut) (label : ℕ)
-    → IsAnswer done all taken t h one first → one ≡ Value label
-    → ((w : Walked) (more : List Bool) → w.label ≡ label → Knows t w.nodes → HasRead (done ++ more) taken h → IsAnswer (done ++ more) all after u k two (next w (behind (done ++ more) all)))
+pub answered_on : (first : Read Walked) (next : Walked → List Bool → Read Walked) (done : List Bool) (all taken after : List ℕ) (t u : TreeState) (h k : BitInState) (one two : Result ℕ LabelStop) (label : ℕ)
+    → IsAnswer done all taken t h one first → one ≡ Ok label
+    → ((w : Walked) (more : List Bool) → w.label ≡ label → Knows t w.nodes → HasRead (done ++ more) taken h → IsAnswer (done ++ more) all after u k two (next w (bits_after (done ++ more) all)))
     → IsAnswer done all after u k two (and_then first next)
 answered_on (Got w rest) next done all taken after t u h k one two label a e on =
     let more = a.2.0 in
-    let left : behind (done ++ more) all ≡ rest = behind_more done more rest all a.2.1 in
-    let b : IsAnswer (done ++ more) all after u k two (next w (behind (done ++ more) all)) = on w more (same_label w.label label (sym a.0 ∙ e)) a.1 a.2.2 in
+    let left : bits_after (done ++ more) all ≡ rest = behind_more done more rest all a.2.1 in
+    let b : IsAnswer (done ++ more) all after u k two (next w (bits_after (done ++ more) all)) = on w more (same_label w.label label (sym a.0 ∙ e)) a.1 a.2.2 in
     let P : List Bool → Type 0 = λ l. IsAnswer (done ++ more) all after u k two (next w l) in
     widened done more all after u k two (next w rest) (a.2.1 ∙ ap (λ (l : List Bool). more ++ l) (sym left)) (subst P left b)
 answered_on AtEnd next done all taken after t u h k one two label a e on = absurd (none_is_no_label (packed_bits all).broken_at label (sym e ∙ a))
-answered_on (Refused why) next done all taken after t u h k one two label a e on = absurd (let c : TooGreat ≡ Value label = sym a ∙ e in cc)
+answered_on (Refused why) next done all taken after t u h k one two label a e on = absurd (let c : Err TooGreat ≡ Ok label = sym a ∙ e in cc)
 
 -- an answer that is no label ends the path
-pub answered_last : (first : Read Walked) (next : Walked → List Bool → Read Walked) (done : List Bool) (all taken : List ℕ) (t : Grove) (h : Hand) (out : TreeOut)
-    → IsAnswer done all taken t h out first → ((v : ℕ) → out ≡ Value v → ⊥) → IsAnswer done all taken t h out (and_then first next)
+pub answered_last : (first : Read Walked) (next : Walked → List Bool → Read Walked) (done : List Bool) (all taken : List ℕ) (t : TreeState) (h : BitInState) (out : Result ℕ LabelStop)
+    → IsAnswer done all taken t h out first → ((v : ℕ) → out ≡ Ok v → ⊥) → IsAnswer done all taken t h out (and_then first next)
 answered_last (Got w rest) next done all taken t h out a none = absurd (none w.label a.0)
 answered_last AtEnd next done all taken t h out a none = a
 answered_last (Refused why) next done all taken t h out a none = a
@@ -106,67 +110,11 @@ inclusion_by_node level levels s above nodes l =
     ]
 
 -- an answer without a bit
-pub answered_at_once : (v : ℕ) (nodes : List Node) (done : List Bool) (all taken : List ℕ) (t : Grove) (h : Hand) → Knows t nodes → HasRead done taken h
-    → IsAnswer done all taken t h (Value v) (Got (record { label = v; nodes = nodes }) (behind done all))
+pub answered_at_once : (v : ℕ) (nodes : List Node) (done : List Bool) (all taken : List ℕ) (t : TreeState) (h : BitInState) → Knows t nodes → HasRead done taken h
+    → IsAnswer done all taken t h (Ok v) (Got (record { label = v; nodes = nodes }) (bits_after done all))
 answered_at_once v nodes done all taken t h k r =
     let P : List Bool → Type 0 = λ l. HasRead l taken h in
     (refl, k, ([], refl, subst P (sym (append-nil done)) r))
-
--- a node that was met
-pub inclusion_known : (level above v : ℕ) (s : Seat) (nodes : List Node) (done : List Bool) (all taken : List ℕ) (t : Grove) (h : Hand) → known_label level s nodes ≡ Some v → Knows t nodes → HasRead done taken h
-    → IsAnswer done all taken t h (Value v) (read_inclusion (level ∷ []) s above nodes (behind done all))
-inclusion_known level above v s nodes done all taken t h e k r =
-    let P : Read Walked → Type 0 = λ x. IsAnswer done all taken t h (Value v) x in
-    subst P (sym (when_known level [] s above v nodes (behind done all) e ∙ at_leaf s v nodes (behind done all))) (answered_at_once v nodes done all taken t h k r)
-
--- a node below one that isn't 0
-pub inclusion_below : (level above : ℕ) (s : Seat) (nodes : List Node) (done : List Bool) (all taken : List ℕ) (t : Grove) (h : Hand) → known_label level s nodes ≡ None → above ≢ 0 → Knows t nodes → HasRead done taken h
-    → IsAnswer done all taken t h (Value above) (read_inclusion (level ∷ []) s above nodes (behind done all))
-inclusion_below level above s nodes done all taken t h e ne k r =
-    let P : Read Walked → Type 0 = λ x. IsAnswer done all taken t h (Value above) x in
-    elim (eqb_tells above 0) [
-      | inl z ↦ absurd (ne z.1)
-      | inr z ↦ subst P (sym (when_below level [] s above nodes (behind done all) e z.0 ∙ at_leaf s above nodes (behind done all))) (answered_at_once above nodes done all taken t h k r)
-    ]
-
--- what the answer to a bit says of the bits
-pub none_for_need : (l : List Bool) (o : Option ℕ) → NoBit ≡ answer_by l o → (l ≡ []) × (Need ≡ none_left o)
-none_for_need [] None e = (refl, refl)
-none_for_need [] (Some place) e = absurd (cc)
-none_for_need (b ∷ l) o e = absurd (cc)
-
-pub none_for_broken : (l : List Bool) (o : Option ℕ) → Broken ≡ answer_by l o → (l ≡ []) × (Stuffed ≡ none_left o)
-none_for_broken [] None e = absurd (cc)
-none_for_broken [] (Some place) e = (refl, refl)
-none_for_broken (b ∷ l) o e = absurd (cc)
-
-pub one_for_bit : (b : Bool) (l : List Bool) (o : Option ℕ) → Bit b ≡ answer_by l o → (rest : List Bool) × (l ≡ b ∷ rest)
-one_for_bit b [] None e = absurd (cc)
-one_for_bit b [] (Some place) e = absurd (cc)
-one_for_bit b (c ∷ l) o e = let f : b ≡ c = cc in (l, ap (λ (x : Bool). x ∷ l) (sym f))
-
--- a node where no bit is left
-pub inclusion_at_end : (level above : ℕ) (s : Seat) (nodes : List Node) (done : List Bool) (all taken : List ℕ) (t : Grove) (h : Hand) (out : TreeOut) → known_label level s nodes ≡ None → above ≡ 0
-    → behind done all ≡ [] → out ≡ none_left (packed_bits all).broken_at → IsAnswer done all taken t h out (read_inclusion (level ∷ []) s above nodes (behind done all))
-inclusion_at_end level above s nodes done all taken t h out e z none a =
-    let P : Read Walked → Type 0 = λ x. IsAnswer done all taken t h out x in
-    let test : (above == 0) ≡ true = rw z refl in
-    let read : Bool → List Bool → Read Walked = λ b more. read_inclusion [] s (if b then 0 else 1) (node_of level s (if b then 0 else 1) ∷ nodes) more in
-    let end : read_inclusion (level ∷ []) s above nodes (behind done all) ≡ AtEnd = when_met level [] s above nodes (behind done all) e test ∙ ap (λ (l : List Bool). and_then (read_bit l) read) none in
-    subst P (sym end) a
-
--- a node that is met by a bit
-pub inclusion_met : (level above : ℕ) (b : Bool) (s : Seat) (nodes : List Node) (done rest : List Bool) (all taken : List ℕ) (t : Grove) (h : Hand) → known_label level s nodes ≡ None → above ≡ 0
-    → behind done all ≡ b ∷ rest → Knows t (node_of level s (if b then 0 else 1) ∷ nodes) → HasRead (done ++ b ∷ []) taken h
-    → IsAnswer done all taken t h (Value (if b then 0 else 1)) (read_inclusion (level ∷ []) s above nodes (behind done all))
-inclusion_met level above b s nodes done rest all taken t h e z some k r =
-    let label = if b then 0 else 1 in
-    let P : Read Walked → Type 0 = λ x. IsAnswer done all taken t h (Value label) x in
-    let test : (above == 0) ≡ true = rw z refl in
-    let read : Bool → List Bool → Read Walked = λ c more. read_inclusion [] s (if c then 0 else 1) (node_of level s (if c then 0 else 1) ∷ nodes) more in
-    let end : read_inclusion (level ∷ []) s above nodes (behind done all) ≡ Got (record { label = label; nodes = node_of level s label ∷ nodes }) rest =
-    when_met level [] s above nodes (behind done all) e test ∙ (ap (λ (l : List Bool). and_then (read_bit l) read) some ∙ at_leaf s label (node_of level s label ∷ nodes) rest) in
-    subst P (sym end) (refl, k, (b ∷ [], some, r))
 
 -- no bytes of a piece
 pub no_range : (bytes piece : List ℕ) (at : ℕ) → bytes ≡ bytes ++ slice_range piece at at
@@ -213,39 +161,121 @@ planes_by_node level levels s above nodes l =
       | inl k ↦ planes_met level levels s above nodes l k ∙ (planes_by_label level levels s nodes (read_label above l) ∙ ap (λ (r : Read Walked). and_then r next) (sym (planes_met level [] s above nodes l k)))
     ]
 
--- a node that was met
-pub value_known : (level above v : ℕ) (s : Seat) (nodes : List Node) (done : List Bool) (all taken : List ℕ) (t : Grove) (h : Hand) → known_label level s nodes ≡ Some v → Knows t nodes → HasRead done taken h
-    → IsAnswer done all taken t h (Value v) (read_planes (level ∷ []) s above nodes (behind done all))
-value_known level above v s nodes done all taken t h e k r =
-    let P : Read Walked → Type 0 = λ x. IsAnswer done all taken t h (Value v) x in
-    subst P (sym (planes_known level [] s above v nodes (behind done all) e ∙ planes_at_leaf s v nodes (behind done all))) (answered_at_once v nodes done all taken t h k r)
+-- A path of a tree of either kind is read node by node.
+pub by_node : (kind : Kind) (level : ℕ) (levels : List ℕ) (s : Seat) (above : ℕ) (nodes : List Node) (l : List Bool)
+    → levels_reading kind (level ∷ levels) above s nodes l ≡ and_then (levels_reading kind (level ∷ []) above s nodes l) (λ w rest. levels_reading kind levels w.label s w.nodes rest)
+by_node Inclusion level levels s above nodes l = inclusion_by_node level levels s above nodes l
+by_node Value level levels s above nodes l = planes_by_node level levels s above nodes l
 
--- a label that was read is its node's
-met_by_label : (level v : ℕ) (s : Seat) (nodes : List Node) (done : List Bool) (all taken : List ℕ) (t : Grove) (h : Hand) (r : Read ℕ) → IsLabel done all taken h (Value v) r → Knows t (node_of level s v ∷ nodes)
-    → IsAnswer done all taken t h (Value v) (and_then r (λ value more. read_planes [] s value (node_of level s value ∷ nodes) more))
+-- The label of a node that is known is that label.
+pub known_reading : (kind : Kind) (level above v : ℕ) (s : Seat) (nodes : List Node) (l : List Bool) → known_label level s nodes ≡ Some v
+    → levels_reading kind (level ∷ []) above s nodes l ≡ Got (record { label = v; nodes = nodes }) l
+known_reading Inclusion level above v s nodes l e = when_known level [] s above v nodes l e ∙ at_leaf s v nodes l
+known_reading Value level above v s nodes l e = planes_known level [] s above v nodes l e ∙ planes_at_leaf s v nodes l
+
+-- The label of a silent node is that of the node above it.
+pub silent_reading : (kind : Kind) (level above : ℕ) (s : Seat) (nodes : List Node) (l : List Bool) → known_label level s nodes ≡ None → IsSilent kind above
+    → levels_reading kind (level ∷ []) above s nodes l ≡ Got (record { label = above; nodes = nodes }) l
+silent_reading Inclusion level above s nodes l e silent = elim (eqb_tells above 0) [
+  | inl z ↦ absurd (silent z.1)
+  | inr z ↦ when_below level [] s above nodes l e z.0 ∙ at_leaf s above nodes l
+]
+silent_reading Value level above s nodes l e silent = absurd silent
+
+-- A node of an inclusion tree that is met by a bit.
+met_by_bit : (level : ℕ) (s : Seat) (nodes : List Node) (l : List Bool)
+    → and_then (read_bit l) (λ b more. read_inclusion [] s (if b then 0 else 1) (node_of level s (if b then 0 else 1) ∷ nodes) more)
+    ≡ and_then (and_then (read_bit l) (λ b more. Got (if b then 0 else 1) more)) (λ v more. Got (record { label = v; nodes = node_of level s v ∷ nodes }) more)
+unfolding read_inclusion
+met_by_bit level s nodes [] = refl
+met_by_bit level s nodes (b ∷ l) = refl
+
+-- A node of a value tree that is met by a label.
+met_by_label : (level : ℕ) (s : Seat) (nodes : List Node) (r : Read ℕ)
+    → and_then r (λ value more. read_planes [] s value (node_of level s value ∷ nodes) more) ≡ and_then r (λ v more. Got (record { label = v; nodes = node_of level s v ∷ nodes }) more)
 unfolding read_planes
-met_by_label level v s nodes done all taken t h (Got w rest) a k =
+met_by_label level s nodes (Got v l) = refl
+met_by_label level s nodes AtEnd = refl
+met_by_label level s nodes (Refused why) = refl
+
+-- The label of any other node is read of the next bits, and the node is known then.
+pub met_reading : (kind : Kind) (level above : ℕ) (s : Seat) (nodes : List Node) (l : List Bool) → known_label level s nodes ≡ None → (IsSilent kind above → ⊥)
+    → levels_reading kind (level ∷ []) above s nodes l ≡ and_then (label_reading kind above l) (λ v more. Got (record { label = v; nodes = node_of level s v ∷ nodes }) more)
+met_reading Inclusion level above s nodes l e some = elim (eqb_tells above 0) [
+  | inl z ↦ when_met level [] s above nodes l e z.0 ∙ met_by_bit level s nodes l
+  | inr z ↦ absurd (some z.1)
+]
+met_reading Value level above s nodes l e some = planes_met level [] s above nodes l e ∙ met_by_label level s nodes (read_label above l)
+
+-- The answer to a node that is known.
+pub node_known : (kind : Kind) (level above v : ℕ) (s : Seat) (nodes : List Node) (done : List Bool) (all taken : List ℕ) (t : TreeState) (h : BitInState) → known_label level s nodes ≡ Some v → Knows t nodes → HasRead done taken h
+    → IsAnswer done all taken t h (Ok v) (levels_reading kind (level ∷ []) above s nodes (bits_after done all))
+node_known kind level above v s nodes done all taken t h e k r =
+    let P : Read Walked → Type 0 = λ x. IsAnswer done all taken t h (Ok v) x in
+    subst P (sym (known_reading kind level above v s nodes (bits_after done all) e)) (answered_at_once v nodes done all taken t h k r)
+
+-- The answer to a silent node.
+pub node_silent : (kind : Kind) (level above : ℕ) (s : Seat) (nodes : List Node) (done : List Bool) (all taken : List ℕ) (t : TreeState) (h : BitInState) → known_label level s nodes ≡ None → IsSilent kind above → Knows t nodes → HasRead done taken h
+    → IsAnswer done all taken t h (Ok above) (levels_reading kind (level ∷ []) above s nodes (bits_after done all))
+node_silent kind level above s nodes done all taken t h e silent k r =
+    let P : Read Walked → Type 0 = λ x. IsAnswer done all taken t h (Ok above) x in
+    subst P (sym (silent_reading kind level above s nodes (bits_after done all) e silent)) (answered_at_once above nodes done all taken t h k r)
+
+-- A label that was read is its node's.
+label_met : (level v : ℕ) (s : Seat) (nodes : List Node) (done : List Bool) (all taken : List ℕ) (t : TreeState) (h : BitInState) (r : Read ℕ) → IsLabel done all taken h (Ok v) r → Knows t (node_of level s v ∷ nodes)
+    → IsAnswer done all taken t h (Ok v) (and_then r (λ value more. Got (record { label = value; nodes = node_of level s value ∷ nodes }) more))
+label_met level v s nodes done all taken t h (Got w rest) a k =
     let same : v ≡ w = same_label v w a.0 in
     let P : ℕ → Type 0 = λ n. Knows t (node_of level s n ∷ nodes) in
     (a.0, subst P same k, a.1)
-met_by_label level v s nodes done all taken t h AtEnd a k = absurd (none_is_no_label (packed_bits all).broken_at v a)
-met_by_label level v s nodes done all taken t h (Refused why) a k = absurd (let c : Value v ≡ TooGreat = a in cc)
+label_met level v s nodes done all taken t h AtEnd a k = absurd (none_is_no_label (packed_bits all).broken_at v a)
+label_met level v s nodes done all taken t h (Refused why) a k = absurd (cc)
 
-pub value_met : (level above v : ℕ) (s : Seat) (nodes : List Node) (done : List Bool) (all taken : List ℕ) (t : Grove) (h : Hand) → known_label level s nodes ≡ None
-    → IsLabel done all taken h (Value v) (read_label above (behind done all)) → Knows t (node_of level s v ∷ nodes) → IsAnswer done all taken t h (Value v) (read_planes (level ∷ []) s above nodes (behind done all))
-value_met level above v s nodes done all taken t h e a k =
-    let P : Read Walked → Type 0 = λ x. IsAnswer done all taken t h (Value v) x in
-    subst P (sym (planes_met level [] s above nodes (behind done all) e)) (met_by_label level v s nodes done all taken t h (read_label above (behind done all)) a k)
+-- The answer to a node whose label was read.
+pub node_met : (kind : Kind) (level above v : ℕ) (s : Seat) (nodes : List Node) (done : List Bool) (all taken : List ℕ) (t : TreeState) (h : BitInState) → known_label level s nodes ≡ None → (IsSilent kind above → ⊥)
+    → IsLabel done all taken h (Ok v) (label_reading kind above (bits_after done all)) → Knows t (node_of level s v ∷ nodes)
+    → IsAnswer done all taken t h (Ok v) (levels_reading kind (level ∷ []) above s nodes (bits_after done all))
+node_met kind level above v s nodes done all taken t h e some a k =
+    let P : Read Walked → Type 0 = λ x. IsAnswer done all taken t h (Ok v) x in
+    subst P (sym (met_reading kind level above s nodes (bits_after done all) e some)) (label_met level v s nodes done all taken t h (label_reading kind above (bits_after done all)) a k)
 
--- an answer that is no label
-no_label : (level : ℕ) (s : Seat) (nodes : List Node) (done : List Bool) (all taken : List ℕ) (t : Grove) (h : Hand) (out : TreeOut) (r : Read ℕ) → IsLabel done all taken h out r → ((v : ℕ) → out ≡ Value v → ⊥)
-    → IsAnswer done all taken t h out (and_then r (λ value more. read_planes [] s value (node_of level s value ∷ nodes) more))
-no_label level s nodes done all taken t h out (Got w rest) a none = absurd (none w a.0)
-no_label level s nodes done all taken t h out AtEnd a none = a
-no_label level s nodes done all taken t h out (Refused why) a none = a
+-- A label that isn't read.
+label_stopped : (level : ℕ) (s : Seat) (nodes : List Node) (done : List Bool) (all taken : List ℕ) (t : TreeState) (h : BitInState) (stopped : LabelStop) (r : Read ℕ) → IsLabel done all taken h (Err stopped) r
+    → IsAnswer done all taken t h (Err stopped) (and_then r (λ value more. Got (record { label = value; nodes = node_of level s value ∷ nodes }) more))
+label_stopped level s nodes done all taken t h stopped (Got w rest) a = absurd (let c : Err stopped ≡ Ok w = a.0 in cc)
+label_stopped level s nodes done all taken t h stopped AtEnd a = a
+label_stopped level s nodes done all taken t h stopped (Refused why) a = a
 
-pub value_not_met : (level above : ℕ) (s : Seat) (nodes : List Node) (done : List Bool) (all taken : List ℕ) (t : Grove) (h : Hand) (out : TreeOut) → known_label level s nodes ≡ None
-    → IsLabel done all taken h out (read_label above (behind done all)) → ((v : ℕ) → out ≡ Value v → ⊥) → IsAnswer done all taken t h out (read_planes (level ∷ []) s above nodes (behind done all))
-value_not_met level above s nodes done all taken t h out e a none =
-    let P : Read Walked → Type 0 = λ x. IsAnswer done all taken t h out x in
-    subst P (sym (planes_met level [] s above nodes (behind done all) e)) (no_label level s nodes done all taken t h out (read_label above (behind done all)) a none)
+-- The answer to a node whose label isn't read.
+pub node_stopped : (kind : Kind) (level above : ℕ) (s : Seat) (nodes : List Node) (done : List Bool) (all taken : List ℕ) (t : TreeState) (h : BitInState) (stopped : LabelStop) → known_label level s nodes ≡ None → (IsSilent kind above → ⊥)
+    → IsLabel done all taken h (Err stopped) (label_reading kind above (bits_after done all))
+    → IsAnswer done all taken t h (Err stopped) (levels_reading kind (level ∷ []) above s nodes (bits_after done all))
+node_stopped kind level above s nodes done all taken t h stopped e some a =
+    let P : Read Walked → Type 0 = λ x. IsAnswer done all taken t h (Err stopped) x in
+    subst P (sym (met_reading kind level above s nodes (bits_after done all) e some)) (label_stopped level s nodes done all taken t h stopped (label_reading kind above (bits_after done all)) a)
+
+-- The label that a bit gives a node of an inclusion tree.
+label_of_bit : (b : Bool) (l rest : List Bool) → l ≡ b ∷ rest → label_reading Inclusion 0 l ≡ Got (if b then 0 else 1) rest
+label_of_bit b l rest e = ap (label_reading Inclusion 0) e
+
+one_for_bit : (b : Bool) (l : List Bool) (o : Option ℕ) → Ok b ≡ answer_by l o → (rest : List Bool) × (l ≡ b ∷ rest)
+one_for_bit b [] o e = absurd (cc)
+one_for_bit b (c ∷ l) o e = let f : b ≡ c = cc in (l, ap (λ (x : Bool). x ∷ l) (sym f))
+
+-- The answer to a bit of an inclusion tree.
+pub bit_label : (b : Bool) (v : ℕ) (done : List Bool) (all taken : List ℕ) (h : BitInState) (out : Result Bool Stop) → v ≡ (if b then 0 else 1) → out ≡ Ok b → out ≡ answer_by (bits_after done all) (packed_bits all).broken_at → HasRead (done ++ given out) taken h
+    → IsLabel done all taken h (Ok v) (label_reading Inclusion 0 (bits_after done all))
+bit_label b v done all taken h out e is a r =
+    let one = one_for_bit b (bits_after done all) (packed_bits all).broken_at (sym is ∙ a) in
+    let P : Read ℕ → Type 0 = λ x. IsLabel done all taken h (Ok v) x in
+    let Q : Result Bool Stop → Type 0 = λ x. HasRead (done ++ given x) taken h in
+    subst P (sym (label_of_bit b (bits_after done all) one.0 one.1)) (ap (λ (n : ℕ). Ok n) e, (b ∷ [], one.1, subst Q is r))
+
+-- The answer to a bit that isn't there.
+pub bit_stopped : (stopped : Stop) (done : List Bool) (all taken : List ℕ) (h : BitInState) → Err stopped ≡ answer_by (bits_after done all) (packed_bits all).broken_at
+    → IsLabel done all taken h (Err (label_stop stopped)) (label_reading Inclusion 0 (bits_after done all))
+bit_stopped stopped done all taken h a =
+    let n = stopped_at (bits_after done all) (packed_bits all).broken_at stopped (sym a) in
+    let P : Read ℕ → Type 0 = λ x. IsLabel done all taken h (Err (label_stop stopped)) x in
+    let end : label_reading Inclusion 0 (bits_after done all) ≡ AtEnd = ap (label_reading Inclusion 0) n.0 in
+    subst P (sym end) (ap (λ (x : Stop). Err (label_stop x)) n.1)

@@ -7,7 +7,7 @@ use Rattle.std.proofs.Math.Nat.{div-lt_iff_lt-mul}
 use Rattle.codestream_model.specs.TagTrees.{Seat, shares}
 use Rattle.codestream_model.proofs.TreeLemmas.{either, same_number, shared}
 use Rattle.tag_tree.specs.Places.{place_of}
-use Rattle.tag_tree.specs.Grove.{Grove}
+use Rattle.tag_tree.specs.TreeState.{TreeState}
 use Rattle.codestream_model.specs.PacketHeaderReading.{known_label}
 use Rattle.tag_tree.specs.LeafReading.{Knows, IsSameShape}
 use Rattle.tag_tree.specs.LeafWriting.{IsOn, IsLowered, HoldsLeast, HasMet, held, is_met, lowered_at, leaf_at}
@@ -19,7 +19,7 @@ abbrev pub lowered_to : Bool → ℕ → ℕ → ℕ
 lowered_to below was label = if below then min was label else was
 
 -- a node's label where one of its level is lowered
-lower_level : (t : Grove) (s u : Seat) (level label : ℕ) → IsOn t s → IsOn t u → place_of t.cols t.rows level s.col s.row < length t.labels
+lower_level : (t : TreeState) (s u : Seat) (level label : ℕ) → IsOn t s → IsOn t u → place_of t.cols t.rows level s.col s.row < length t.labels
     → held (lowered_at t (place_of t.cols t.rows level s.col s.row) label) level u ≡ lowered_to (shares level u s) (held t level u) label
 lower_level t s u level label at on inside =
     let p = place_of t.cols t.rows level s.col s.row in
@@ -32,14 +32,14 @@ lower_level t s u level label at on inside =
       | inr h ↦ rw h (set_other t.labels p (place_of t.cols t.rows level u.col u.row) v 0 (other_node t level u s on at h))
     ]
 
-lower_others : (t : Grove) (s u : Seat) (l level label : ℕ) → IsOn t s → IsOn t u → l ≢ level
+lower_others : (t : TreeState) (s u : Seat) (l level label : ℕ) → IsOn t s → IsOn t u → l ≢ level
     → held (lowered_at t (place_of t.cols t.rows level s.col s.row) label) l u ≡ held t l u
 lower_others t s u l level label at on ne =
     let p = place_of t.cols t.rows level s.col s.row in
     set_other t.labels p (place_of t.cols t.rows l u.col u.row) (min (slice_index t.labels p) label) 0 (other_level t l level u s on at ne)
 
 -- a leaf lowers its own node, and then those above are as they were
-pub lowers_leaf : (t : Grove) (s : Seat) (level label : ℕ) → IsOn t s → place_of t.cols t.rows level s.col s.row < length t.labels → level ≡ 0
+pub lowers_leaf : (t : TreeState) (s : Seat) (level label : ℕ) → IsOn t s → place_of t.cols t.rows level s.col s.row < length t.labels → level ≡ 0
     → IsLowered t (lowered_at t (place_of t.cols t.rows level s.col s.row) label) s label level
 lowers_leaf t s level label at inside e = record {
   upper = λ l u on above low. (let ne : l ≢ level = λ f. omega arith in lower_others t s u l level label at on ne);
@@ -50,7 +50,7 @@ lowers_leaf t s level label at inside e = record {
 }
 
 -- a node is lowered, and then those below it
-pub lowers_more : (t w : Grove) (s : Seat) (level label : ℕ) → IsOn t s → place_of t.cols t.rows level s.col s.row < length t.labels → level ≢ 0
+pub lowers_more : (t w : TreeState) (s : Seat) (level label : ℕ) → IsOn t s → place_of t.cols t.rows level s.col s.row < length t.labels → level ≢ 0
     → IsLowered (lowered_at t (place_of t.cols t.rows level s.col s.row) label) w s label (level - 1) → IsLowered t w s label level
 lowers_more t w s level label at inside some r =
     let v = lowered_at t (place_of t.cols t.rows level s.col s.row) label in
@@ -73,7 +73,7 @@ lowers_more t w s level label at inside some r =
     }
 
 -- the labels are the least of the first leaves, or 255 where none of them is below
-pub record LeastOf (t : Grove) (leaves : List ℕ) (count : ℕ) : Type 0 where
+pub record LeastOf (t : TreeState) (leaves : List ℕ) (count : ℕ) : Type 0 where
   pub low : (level : ℕ) (s leaf : Seat) → IsOn t s → IsOn t leaf → level ≤ t.root → leaf.row * t.cols + leaf.col < count → shares level s leaf ≡ true → held t level s ≤ leaf_at t leaves leaf
   pub reached : (level : ℕ) (s : Seat) → IsOn t s → level ≤ t.root → (held t level s ≡ 255) ⊎ ((leaf : Seat) × IsOn t leaf × (shares level s leaf ≡ true) × (held t level s ≡ leaf_at t leaves leaf))
 
@@ -84,7 +84,7 @@ one_of_all (suc n) zero x h = refl
 one_of_all (suc n) (suc i) x h = one_of_all n i x (omega arith)
 
 -- no leaf yet
-pub least_of_none : (t : Grove) (leaves : List ℕ) (n : ℕ) → t.labels ≡ replicate n 255 → ((level : ℕ) (s : Seat) → IsOn t s → level ≤ t.root → place_of t.cols t.rows level s.col s.row < n) → LeastOf t leaves 0
+pub least_of_none : (t : TreeState) (leaves : List ℕ) (n : ℕ) → t.labels ≡ replicate n 255 → ((level : ℕ) (s : Seat) → IsOn t s → level ≤ t.root → place_of t.cols t.rows level s.col s.row < n) → LeastOf t leaves 0
 least_of_none t leaves n all inside = record {
   low = λ level s leaf on off low few shared. absurd (omega arith);
   reached = λ level s on low. inl (ap (λ (l : List ℕ). slice_index l (place_of t.cols t.rows level s.col s.row)) all ∙ one_of_all n (place_of t.cols t.rows level s.col s.row) 255 (inside level s on low));
@@ -150,7 +150,7 @@ lowered_which true was label = elim (leb_tells was label) [
 ]
 
 -- one leaf more
-pub least_of_more : (t u : Grove) (leaves : List ℕ) (k : ℕ) → u.cols ≡ t.cols → u.rows ≡ t.rows → u.root ≡ t.root → k < t.cols * t.rows
+pub least_of_more : (t u : TreeState) (leaves : List ℕ) (k : ℕ) → u.cols ≡ t.cols → u.rows ≡ t.rows → u.root ≡ t.root → k < t.cols * t.rows
     → IsLowered t u (leaf_of t.cols k) (slice_index leaves k) t.root → LeastOf t leaves k → LeastOf u leaves (k + 1)
 least_of_more t u leaves k c r o few is least =
     let here : (s : Seat) → IsOn u s → IsOn t s = λ s on. record { col = rw (← c) on.col; row = rw (← r) on.row } in
@@ -197,12 +197,12 @@ least_of_more t u leaves k c r o few is least =
 shares_own : (level : ℕ) (s : Seat) → shares level s s ≡ true
 shares_own level s = rw (same_number (s.col / 2 ^ level), same_number (s.row / 2 ^ level)) refl
 
--- a seat's place in raster order is before the end
+-- a position's place in raster order is before the end
 before_end : (cols rows row col : ℕ) → col < cols → row < rows → row * cols + col < cols * rows
 before_end cols rows row col h t = omega (arith, mul-add-lt row cols col rows t h)
 
 -- all leaves
-pub least_of_all : (t : Grove) (leaves : List ℕ) → ((i : ℕ) → slice_index leaves i < 256) → LeastOf t leaves (t.cols * t.rows) → HoldsLeast t leaves
+pub least_of_all : (t : TreeState) (leaves : List ℕ) → ((i : ℕ) → slice_index leaves i < 256) → LeastOf t leaves (t.cols * t.rows) → HoldsLeast t leaves
 least_of_all t leaves bytes least =
     let low : (level : ℕ) (s leaf : Seat) → IsOn t s → IsOn t leaf → level ≤ t.root → shares level s leaf ≡ true → held t level s ≤ leaf_at t leaves leaf =
     λ level s leaf on off low e. least.low level s leaf on off low (before_end t.cols t.rows leaf.row leaf.col off.col off.row) e in
@@ -221,7 +221,7 @@ none_told : (met : Bool) (label : ℕ) → None ≡ (if met then Some label else
 none_told true label e = absurd (cc)
 none_told false label e = refl
 
-pub none_met : (t u : Grove) → u.cols ≡ t.cols → u.rows ≡ t.rows → u.root ≡ t.root → u.met ≡ t.met → Knows t [] → HasMet u []
+pub none_met : (t u : TreeState) → u.cols ≡ t.cols → u.rows ≡ t.rows → u.root ≡ t.root → u.met ≡ t.met → Knows t [] → HasMet u []
 unfolding known_label
 none_met t u c r o m k = record {
   each = λ level s on low.
@@ -230,5 +230,5 @@ none_met t u c r o m k = record {
 }
 
 -- a tree that keeps its shape twice keeps it
-pub same_twice : (t u v : Grove) → IsSameShape t u → IsSameShape u v → IsSameShape t v
+pub same_twice : (t u v : TreeState) → IsSameShape t u → IsSameShape u v → IsSameShape t v
 same_twice t u v a b = record { leaves = b.leaves ∙ a.leaves; cols = b.cols ∙ a.cols; rows = b.rows ∙ a.rows; root = b.root ∙ a.root }

@@ -1,19 +1,22 @@
 -- A leaf's reading goes on in a further piece: the nodes that were met stay known, and the others are read of the bits that come.
-use Rattle.std.proofs.Common.{◌≡◌, ◌≢◌, ◌<◌, ◌≤◌, ◌⊎◌, ◌-◌, ◌/◌, ◌^◌, ◌==◌, ◌&&◌, ◌++◌, ℕ, zero, suc, Bool, true, false, List, [], ◌∷◌, Option, Some, None, refl, sym, ◌∙◌, ap, subst, inl, inr, arith, append_assoc, if◌then◌else◌}
+use Rattle.std.proofs.Common.{◌≡◌, ◌≢◌, ◌<◌, ◌≤◌, ◌⊎◌, ◌-◌, ◌/◌, ◌^◌, ◌==◌, ◌&&◌, ◌++◌, ℕ, zero, suc, Bool, true, false, List, [], ◌∷◌, Option, Some, None, Result, Ok, Err, refl, sym, ◌∙◌, ap, subst, inl, inr, arith, append_assoc, if◌then◌else◌}
 use Rattle.std.proofs.lemmas.Bool.Decides.{eqb_tells}
 use Rattle.std.proofs.lemmas.List.{append-nil, append_cancel_right}
 use Rattle.codestream_model.specs.StuffedBits.{packed_bits}
-use Rattle.codestream_model.specs.TagTrees.{Seat}
+use Rattle.codestream_model.specs.TagTrees.{Seat, levels_from}
 use Rattle.codestream_model.specs.PacketHeaderReading.{Node, Walked, Read, Got, AtEnd, Refused, and_then, read_bit, node_of, known_label, read_label, read_inclusion, read_planes}
-use Rattle.stuffed_bits.specs.Hand.{Hand}
+use Rattle.stuffed_bits.specs.BitInState.{BitInState}
 use Rattle.stuffed_bits.specs.BitsRead.{HasRead}
-use Rattle.tag_tree.specs.Grove.{Grove}
-use Rattle.tag_tree.specs.LeafReading.{Knows, behind, none_left, IsAnswer}
+use Rattle.tag_tree.specs.TreeState.{TreeState}
+use Rattle.tag_tree.specs.LeafReading.{Knows, bits_after, none_left, IsAnswer}
 use Rattle.tag_tree.specs.LeafGoing.{Waits, IsFreeOrKnown}
-use Rattle.tag_tree.specs.declared.tree.TreeOut.{TreeOut}
-use Rattle.tag_tree.specs.declared.tree.TreeOut.TheVariants.{Value, Need, Stuffed, TooGreat}
-use Rattle.tag_tree.proofs.AnswerLemmas.{known_or_not, when_known, when_below, when_met, at_leaf, planes_known, planes_met, planes_at_leaf, same_label, none_is_no_label, inclusion_by_node, planes_by_node}
-use Rattle.tag_tree.proofs.LocalReads.{Local, IsLocal, local_inclusion, local_planes}
+use Rattle.tag_tree.specs.Kinds.{IsSilent, levels_reading}
+use Rattle.tag_tree.specs.declared.kind.Kind.{Kind}
+use Rattle.tag_tree.specs.declared.kind.Kind.TheVariants.{Inclusion, Value}
+use Rattle.tag_tree.specs.declared.stop.LabelStop.{LabelStop}
+use Rattle.tag_tree.specs.declared.stop.LabelStop.TheVariants.{TooGreat}
+use Rattle.tag_tree.proofs.AnswerLemmas.{answered_last, known_or_not, when_known, when_below, when_met, at_leaf, planes_known, planes_met, planes_at_leaf, same_label, none_is_no_label, by_node, known_reading, silent_reading}
+use Rattle.tag_tree.proofs.LocalReads.{Local, IsLocal, local_levels}
 
 -- a node that was just met is known
 known_here : (level : ℕ) (s : Seat) (v : ℕ) (nodes : List Node) → known_label level s (node_of level s v ∷ nodes) ≡ Some v
@@ -101,7 +104,7 @@ planes_left level s above nodes l rest w e =
     ]
 
 -- a reading that waits at its first node
-pub waits_here : (reading : List Node → List Bool → Read Walked) (from : ℕ) (nodes : List Node) (done : List Bool) (taken : List ℕ) (t : Grove) (h : Hand) → Knows t nodes → HasRead done taken h
+pub waits_here : (reading : List Node → List Bool → Read Walked) (from : ℕ) (nodes : List Node) (done : List Bool) (taken : List ℕ) (t : TreeState) (h : BitInState) → Knows t nodes → HasRead done taken h
     → Waits reading from nodes done taken t h
 waits_here reading from nodes done taken t h k r =
     let P : List Bool → Type 0 = λ l. HasRead l taken h in
@@ -114,8 +117,8 @@ pub record IsPath (whole node below : ℕ → List Node → List Bool → Read W
   pub left : (ns : List Node) (l rest : List Bool) (w : Walked) → node above ns l ≡ Got w rest → Left (node above) level s ns w
 
 -- a reading that waits in its first node
-pub waits_first : (whole node below : ℕ → List Node → List Bool → Read Walked) (level : ℕ) (s : Seat) (above : ℕ) → IsPath whole node below level s above
-    → (nodes : List Node) (done : List Bool) (after : List ℕ) (u : Grove) (k : Hand) → Waits (node above) level nodes done after u k → Waits (whole above) level nodes done after u k
+waits_first : (whole node below : ℕ → List Node → List Bool → Read Walked) (level : ℕ) (s : Seat) (above : ℕ) → IsPath whole node below level s above
+    → (nodes : List Node) (done : List Bool) (after : List ℕ) (u : TreeState) (k : BitInState) → Waits (node above) level nodes done after u k → Waits (whole above) level nodes done after u k
 waits_first whole node below level s above path nodes done after u k b =
     let next : Walked → List Bool → Read Walked = λ x l. below x.label x.nodes l in
     record {
@@ -127,34 +130,31 @@ waits_first whole node below level s above path nodes done after u k b =
       goes_on = λ further. path.by_node nodes (b.more ++ further) ∙ (ap (λ (r : Read Walked). and_then r next) (b.goes_on further) ∙ sym (path.by_node b.known further));
     }
 
--- the paths of both trees
-pub inclusion_path : (level : ℕ) (levels : List ℕ) (s : Seat) (above : ℕ)
-    → IsPath (λ a ns l. read_inclusion (level ∷ levels) s a ns l) (λ a ns l. read_inclusion (level ∷ []) s a ns l) (λ a ns l. read_inclusion levels s a ns l) level s above
-inclusion_path level levels s above = record {
-  by_node = λ ns l. inclusion_by_node level levels s above ns l;
-  local = λ ns. local_inclusion (level ∷ []) s above ns;
-  left = λ ns l rest w f. inclusion_left level s above ns l rest w f;
-}
+-- the path of a tree of either kind
+levels_left : (kind : Kind) (level : ℕ) (s : Seat) (above : ℕ) (nodes : List Node) (l rest : List Bool) (w : Walked) → levels_reading kind (level ∷ []) above s nodes l ≡ Got w rest
+    → Left (λ ns m. levels_reading kind (level ∷ []) above s ns m) level s nodes w
+levels_left Inclusion level s above nodes l rest w e = inclusion_left level s above nodes l rest w e
+levels_left Value level s above nodes l rest w e = planes_left level s above nodes l rest w e
 
-pub planes_path : (level : ℕ) (levels : List ℕ) (s : Seat) (above : ℕ)
-    → IsPath (λ a ns l. read_planes (level ∷ levels) s a ns l) (λ a ns l. read_planes (level ∷ []) s a ns l) (λ a ns l. read_planes levels s a ns l) level s above
-planes_path level levels s above = record {
-  by_node = λ ns l. planes_by_node level levels s above ns l;
-  local = λ ns. local_planes (level ∷ []) s above ns;
-  left = λ ns l rest w f. planes_left level s above ns l rest w f;
+pub path_of : (kind : Kind) (level : ℕ) (levels : List ℕ) (s : Seat) (above : ℕ)
+    → IsPath (λ a ns l. levels_reading kind (level ∷ levels) a s ns l) (λ a ns l. levels_reading kind (level ∷ []) a s ns l) (λ a ns l. levels_reading kind levels a s ns l) level s above
+path_of kind level levels s above = record {
+  by_node = λ ns l. by_node kind level levels s above ns l;
+  local = λ ns. local_levels kind (level ∷ []) s above ns;
+  left = λ ns l rest w f. levels_left kind level s above ns l rest w f;
 }
 
 -- a node's answer, and then a reading below it that waits
 waits_by : (whole node below : ℕ → List Node → List Bool → Read Walked) (level : ℕ) (s : Seat) (above : ℕ) → IsPath whole node below level s above → level ≢ 0
-    → (nodes : List Node) (done : List Bool) (all taken after : List ℕ) (t u : Grove) (h k : Hand) (one : TreeOut) (label : ℕ) (first : Read Walked) → node above nodes (behind done all) ≡ first
-    → IsAnswer done all taken t h one first → one ≡ Value label
+    → (nodes : List Node) (done : List Bool) (all taken after : List ℕ) (t u : TreeState) (h k : BitInState) (one : Result ℕ LabelStop) (label : ℕ) (first : Read Walked) → node above nodes (bits_after done all) ≡ first
+    → IsAnswer done all taken t h one first → one ≡ Ok label
     → ((w : Walked) (more : List Bool) → w.label ≡ label → Knows t w.nodes → HasRead (done ++ more) taken h → Waits (below w.label) (level - 1) w.nodes (done ++ more) after u k)
     → Waits (whole above) level nodes done after u k
 waits_by whole node below level s above path some nodes done all taken after t u h k one label (Got w rest) f a e on =
-    let mine : Local (node above nodes) (behind done all) w rest = path.local nodes (behind done all) w rest f in
+    let mine : Local (node above nodes) (bits_after done all) w rest = path.local nodes (bits_after done all) w rest f in
     let more = a.2.0 in
     let same : mine.more ≡ more = append_cancel_right mine.more more rest (sym mine.front ∙ a.2.1) in
-    let left : Left (node above) level s nodes w = path.left nodes (behind done all) rest w f in
+    let left : Left (node above) level s nodes w = path.left nodes (bits_after done all) rest w f in
     let b : Waits (below w.label) (level - 1) w.nodes (done ++ more) after u k = on w more (same_label w.label label (sym a.0 ∙ e)) a.1 a.2.2 in
     let here : known_label level s b.known ≡ known_label level s w.nodes = b.upper level s (omega arith) in
     let P : List Bool → Type 0 = λ l. HasRead l after k in
@@ -174,21 +174,21 @@ waits_by whole node below level s above path some nodes done all taken after t u
           ∙ (sym (ap (λ (r : Read Walked). and_then r next) (left.again b.known here further)) ∙ sym (path.by_node b.known further)))));
     }
 waits_by whole node below level s above path some nodes done all taken after t u h k one label AtEnd f a e on = absurd (none_is_no_label (packed_bits all).broken_at label (sym e ∙ a))
-waits_by whole node below level s above path some nodes done all taken after t u h k one label (Refused why) f a e on = absurd (let c : TooGreat ≡ Value label = sym a ∙ e in cc)
+waits_by whole node below level s above path some nodes done all taken after t u h k one label (Refused why) f a e on = absurd (cc)
 
 pub waits_on : (whole node below : ℕ → List Node → List Bool → Read Walked) (level : ℕ) (s : Seat) (above : ℕ) → IsPath whole node below level s above → level ≢ 0
-    → (nodes : List Node) (done : List Bool) (all taken after : List ℕ) (t u : Grove) (h k : Hand) (one : TreeOut) (label : ℕ)
-    → IsAnswer done all taken t h one (node above nodes (behind done all)) → one ≡ Value label
+    → (nodes : List Node) (done : List Bool) (all taken after : List ℕ) (t u : TreeState) (h k : BitInState) (one : Result ℕ LabelStop) (label : ℕ)
+    → IsAnswer done all taken t h one (node above nodes (bits_after done all)) → one ≡ Ok label
     → ((w : Walked) (more : List Bool) → w.label ≡ label → Knows t w.nodes → HasRead (done ++ more) taken h → Waits (below w.label) (level - 1) w.nodes (done ++ more) after u k)
     → Waits (whole above) level nodes done after u k
 waits_on whole node below level s above path some nodes done all taken after t u h k one label a e on =
-    waits_by whole node below level s above path some nodes done all taken after t u h k one label (node above nodes (behind done all)) refl a e on
+    waits_by whole node below level s above path some nodes done all taken after t u h k one label (node above nodes (bits_after done all)) refl a e on
 
--- behind two labels, one below the other
-pub free_on : (level : ℕ) (levels : List ℕ) (above col row label v : ℕ) (t u w : Grove) (h i j : Hand)
-    → IsFreeOrKnown (λ s ns l. read_planes (level ∷ []) s above ns l) col row label t u h i → IsFreeOrKnown (λ s ns l. read_planes levels s label ns l) col row v u w i j
-    → IsFreeOrKnown (λ s ns l. read_planes (level ∷ levels) s above ns l) col row v t w h j
-free_on level levels above col row label v t u w h i j a b = elim b [
+-- after two labels, one below the other
+pub free_on : (kind : Kind) (level : ℕ) (levels : List ℕ) (above col row label v : ℕ) (t u w : TreeState) (h i j : BitInState)
+    → IsFreeOrKnown (λ s ns l. levels_reading kind (level ∷ []) above s ns l) col row label t u h i → IsFreeOrKnown (λ s ns l. levels_reading kind levels label s ns l) col row v u w i j
+    → IsFreeOrKnown (λ s ns l. levels_reading kind (level ∷ levels) above s ns l) col row v t w h j
+free_on kind level levels above col row label v t u w h i j a b = elim b [
   | inl f ↦ inl f
   | inr q ↦ elim a [
     | inl f ↦ inl (q.1 ∙ f)
@@ -197,22 +197,53 @@ free_on level levels above col row label v t u w h i j a b = elim b [
       q.1 ∙ p.1,
       λ band nodes l k.
           let s : Seat = record { band = band; col = col; row = row } in
-          let next : Walked → List Bool → Read Walked = λ x m. read_planes levels s x.label x.nodes m in
-          let P : Grove → Type 0 = λ g. Knows g nodes in
-          planes_by_node level levels s above nodes l ∙ (ap (λ (r : Read Walked). and_then r next) (p.2 band nodes l k) ∙ q.2 band nodes l (subst P (sym p.0) k)),
+          let next : Walked → List Bool → Read Walked = λ x m. levels_reading kind levels x.label s x.nodes m in
+          let P : TreeState → Type 0 = λ g. Knows g nodes in
+          by_node kind level levels s above nodes l ∙ (ap (λ (r : Read Walked). and_then r next) (p.2 band nodes l k) ∙ q.2 band nodes l (subst P (sym p.0) k)),
     )
   ]
 ]
 
 -- a node that is known
-pub known_free : (level above col row label v : ℕ) (t : Grove) (h : Hand) → Value label ≡ Value v
-    → ((band : ℕ) (nodes : List Node) → Knows t nodes → known_label level (record { band = band; col = col; row = row }) nodes ≡ Some label)
-    → IsFreeOrKnown (λ s ns l. read_planes (level ∷ []) s above ns l) col row v t t h h
-known_free level above col row label v t h e known = inr (
-  refl,
-  refl,
-  λ band nodes l k.
-      let s : Seat = record { band = band; col = col; row = row } in
-      let same : label ≡ v = same_label label v e in
-      planes_known level [] s above label nodes l (known band nodes k) ∙ (planes_at_leaf s label nodes l ∙ ap (λ (n : ℕ). Got (record { label = n; nodes = nodes }) l) same),
-)
+pub known_free : (kind : Kind) (level above col row v : ℕ) (t : TreeState) (h : BitInState)
+    → ((band : ℕ) (nodes : List Node) → Knows t nodes → known_label level (record { band = band; col = col; row = row }) nodes ≡ Some v)
+    → IsFreeOrKnown (λ s ns l. levels_reading kind (level ∷ []) above s ns l) col row v t t h h
+known_free kind level above col row v t h known = inr (refl, refl, λ band nodes l k. known_reading kind level above v (record { band = band; col = col; row = row }) nodes l (known band nodes k))
+
+-- a silent node
+pub silent_free : (kind : Kind) (level above col row : ℕ) (t : TreeState) (h : BitInState) → IsSilent kind above
+    → ((band : ℕ) (nodes : List Node) → Knows t nodes → known_label level (record { band = band; col = col; row = row }) nodes ≡ None)
+    → IsFreeOrKnown (λ s ns l. levels_reading kind (level ∷ []) above s ns l) col row above t t h h
+silent_free kind level above col row t h silent unknown = inr (refl, refl, λ band nodes l k. silent_reading kind level above (record { band = band; col = col; row = row }) nodes l (unknown band nodes k) silent)
+
+-- the label that was read of a leaf is what was answered
+pub same_freed : (reading : Seat → List Node → List Bool → Read Walked) (col row v w : ℕ) (t u : TreeState) (h i : BitInState) → ◌≡◌ {A = Result ℕ LabelStop} (Ok v) (Ok w) → IsFreeOrKnown reading col row v t u h i → IsFreeOrKnown reading col row w t u h i
+same_freed reading col row v w t u h i e f = let P : ℕ → Type 0 = λ n. IsFreeOrKnown reading col row n t u h i in subst P (same_label v w e) f
+
+-- the levels of a path are those of its first node and those below it, if there are any
+levels_split : (level : ℕ) → (levels : List ℕ) × (levels_from level ≡ level ∷ levels)
+unfolding levels_from
+levels_split zero = ([], refl)
+levels_split (suc level) = (levels_from level, refl)
+
+-- a path that stops at its first node
+pub path_stopped : (kind : Kind) (level above : ℕ) (s : Seat) (nodes : List Node) (done : List Bool) (all taken : List ℕ) (t : TreeState) (h : BitInState) (stopped : LabelStop)
+    → IsAnswer done all taken t h (Err stopped) (levels_reading kind (level ∷ []) above s nodes (bits_after done all))
+    → IsAnswer done all taken t h (Err stopped) (levels_reading kind (levels_from level) above s nodes (bits_after done all))
+path_stopped kind level above s nodes done all taken t h stopped a =
+    let split = levels_split level in
+    let next : Walked → List Bool → Read Walked = λ w rest. levels_reading kind split.0 w.label s w.nodes rest in
+    let first = levels_reading kind (level ∷ []) above s nodes (bits_after done all) in
+    let whole : levels_reading kind (levels_from level) above s nodes (bits_after done all) ≡ and_then first next =
+    ap (λ (ls : List ℕ). levels_reading kind ls above s nodes (bits_after done all)) split.1 ∙ by_node kind level split.0 s above nodes (bits_after done all) in
+    let P : Read Walked → Type 0 = λ x. IsAnswer done all taken t h (Err stopped) x in
+    subst P (sym whole) (answered_last first next done all taken t h (Err stopped) a (λ v e. absurd (cc)))
+
+-- a path that waits at its first node
+pub path_waits_first : (kind : Kind) (level above : ℕ) (s : Seat) (nodes : List Node) (done : List Bool) (taken : List ℕ) (t : TreeState) (h : BitInState)
+    → Waits (λ ns l. levels_reading kind (level ∷ []) above s ns l) level nodes done taken t h → Waits (λ ns l. levels_reading kind (levels_from level) above s ns l) level nodes done taken t h
+path_waits_first kind level above s nodes done taken t h b =
+    let split = levels_split level in
+    let P : List ℕ → Type 0 = λ ls. Waits (λ ns l. levels_reading kind ls above s ns l) level nodes done taken t h in
+    subst P (sym split.1)
+    (waits_first (λ a ns l. levels_reading kind (level ∷ split.0) a s ns l) (λ a ns l. levels_reading kind (level ∷ []) a s ns l) (λ a ns l. levels_reading kind split.0 a s ns l) level s above (path_of kind level split.0 s above) nodes done taken t h b)

@@ -7,11 +7,11 @@ use Rattle.codestream_model.specs.TagTrees.{Seat, shares, seat_of, is_below, lea
 use Rattle.codestream_model.specs.HeaderPieces.{stands_at}
 use Rattle.codestream_model.specs.PacketHeader.{is_included}
 use Rattle.codestream_model.proofs.TreeLemmas.{either, same_number, equal_number, shared}
-use Rattle.tag_tree.specs.Grove.{Grove}
+use Rattle.tag_tree.specs.TreeState.{TreeState}
 use Rattle.tag_tree.specs.LeafWriting.{IsOn, Holds, HoldsLeast, held, leaf_at}
 
 -- The leaves of a band's tree: those of its code-blocks have this value, and the others that one.
-pub record AreLeaves (t : Grove) (leaves : List ℕ) (blocks : List Block) (band : ℕ) (value : Block → ℕ) (other : ℕ) : Type 0 where
+pub record AreLeaves (t : TreeState) (leaves : List ℕ) (blocks : List Block) (band : ℕ) (value : Block → ℕ) (other : ℕ) : Type 0 where
   pub on : AllByRecursion (λ b. b.band ≡ band → IsOn t (seat_of b)) blocks
   pub included : AllByRecursion (λ b. b.band ≡ band → leaf_at t leaves (seat_of b) ≡ value b) blocks
   pub others : (s : Seat) → IsOn t s → s.band ≡ band → is_included blocks s ≡ false → leaf_at t leaves s ≡ other
@@ -68,12 +68,12 @@ there_below band level s u b e t =
     let r : b.row / 2 ^ level ≡ s.row / 2 ^ level = ap (λ (n : ℕ). n / 2 ^ level) t.row ∙ sym p.1 in
     rw (t.band, c, r, same_number band, same_number (s.col / 2 ^ level), same_number (s.row / 2 ^ level)) refl
 
--- a seat in its band
+-- a position in its band
 abbrev in_band : ℕ → Seat → Seat
 in_band band u = record { band = band; col = u.col; row = u.row }
 
 -- the inclusion tree's labels
-pub holds_inclusion : (t : Grove) (leaves : List ℕ) (blocks : List Block) (band : ℕ) → AreLeaves t leaves blocks band (λ b. 0) 1 → HoldsLeast t leaves → Holds t (least_inclusion blocks band)
+pub holds_inclusion : (t : TreeState) (leaves : List ℕ) (blocks : List Block) (band : ℕ) → AreLeaves t leaves blocks band (λ b. 0) 1 → HoldsLeast t leaves → Holds t (least_inclusion blocks band)
 holds_inclusion t leaves blocks band are h = record {
   each = λ level s on top.
       let col = s.col / 2 ^ level in
@@ -136,7 +136,7 @@ least_at_least q n (b ∷ blocks) h a = elim (either (q b)) [
 ]
 
 -- a label is no more than 74 where the leaves are
-held_small : (t : Grove) (leaves : List ℕ) (blocks : List Block) (band : ℕ) → AreLeaves t leaves blocks band (λ b. b.planes) 74 → AllByRecursion (λ b. b.planes ≤ 74) blocks → HoldsLeast t leaves
+held_small : (t : TreeState) (leaves : List ℕ) (blocks : List Block) (band : ℕ) → AreLeaves t leaves blocks band (λ b. b.planes) 74 → AllByRecursion (λ b. b.planes ≤ 74) blocks → HoldsLeast t leaves
     → (level : ℕ) (s : Seat) → IsOn t s → level ≤ t.root → held t level s ≤ 74
 held_small t leaves blocks band are small h level s on top =
     let u = in_band band s in
@@ -157,7 +157,7 @@ held_small t leaves blocks band are small h level s on top =
     omega arith
 
 -- the value tree's labels
-pub holds_planes : (t : Grove) (leaves : List ℕ) (blocks : List Block) (band : ℕ) → AreLeaves t leaves blocks band (λ b. b.planes) 74 → AllByRecursion (λ b. b.planes ≤ 74) blocks → HoldsLeast t leaves → Holds t (least_planes blocks band)
+pub holds_planes : (t : TreeState) (leaves : List ℕ) (blocks : List Block) (band : ℕ) → AreLeaves t leaves blocks band (λ b. b.planes) 74 → AllByRecursion (λ b. b.planes ≤ 74) blocks → HoldsLeast t leaves → Holds t (least_planes blocks band)
 holds_planes t leaves blocks band are small h = record {
   each = λ level s on top.
       let below : Block → Bool = is_below band level (s.col / 2 ^ level) (s.row / 2 ^ level) in

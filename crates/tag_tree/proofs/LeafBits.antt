@@ -7,7 +7,7 @@ use Rattle.codestream_model.specs.TagTrees.{Seat, Labels, Step, label, parent_la
 use Rattle.codestream_model.specs.HeaderPieces.{InclusionPiece, PlanesPiece, bits_of, piece_bits}
 use Rattle.codestream_model.proofs.TreeLemmas.{AreDistinct, first_is}
 use Rattle.codestream_model.proofs.GridLemmas.{first_here}
-use Rattle.tag_tree.specs.Grove.{Grove}
+use Rattle.tag_tree.specs.TreeState.{TreeState}
 use Rattle.tag_tree.specs.LeafWriting.{grid_of, leaf_bits, inclusion_step, value_step}
 
 -- tests that say the same choose the same
@@ -23,7 +23,7 @@ bits_of_first step g labels before among s first =
     (sym (filter_same (λ level. is_first level s among) (λ level. not (list_any (shares level s) before)) (levels_from (root_level g)) first))
 
 -- a tree's grid serves as another one of its size
-pub bits_on_grid : (step : ℕ → ℕ → List Bool) (t : Grove) (g : Grid) (labels : Labels) (before : List Seat) (s : Seat) → t.cols ≡ g.cols → t.rows ≡ g.rows → leaf_bits step (grid_of t) labels before s ≡ leaf_bits step g labels before s
+pub bits_on_grid : (step : ℕ → ℕ → List Bool) (t : TreeState) (g : Grid) (labels : Labels) (before : List Seat) (s : Seat) → t.cols ≡ g.cols → t.rows ≡ g.rows → leaf_bits step (grid_of t) labels before s ≡ leaf_bits step g labels before s
 bits_on_grid step t g labels before s c r =
     ap (λ (n : ℕ). leaf_bits step (record { band = 0; cols = n; rows = t.rows }) labels before s) c
     ∙ ap (λ (n : ℕ). leaf_bits step (record { band = 0; cols = g.cols; rows = n }) labels before s) r
@@ -34,14 +34,14 @@ inclusion_pieces [] = refl
 inclusion_pieces (b ∷ bits) = ap (λ (l : List Bool). b ∷ l) (inclusion_pieces bits)
 
 -- in the inclusion tree of a grid, where all leaves are written in raster order
-pub inclusion_written : (t : Grove) (g : Grid) (labels : Labels) (before after : List Seat) (s : Seat) → t.cols ≡ g.cols → t.rows ≡ g.rows → seats g ≡ before ++ s ∷ after
+pub inclusion_written : (t : TreeState) (g : Grid) (labels : Labels) (before after : List Seat) (s : Seat) → t.cols ≡ g.cols → t.rows ≡ g.rows → seats g ≡ before ++ s ∷ after
     → leaf_bits inclusion_step (grid_of t) labels before s ≡ bits_of (map InclusionPiece (inclusion_bits g labels s))
 inclusion_written t g labels before after s c r e =
     bits_on_grid inclusion_step t g labels before s c r
     ∙ (bits_of_first inclusion_step g labels before (seats g) s (first_here g before after s e) ∙ sym (inclusion_pieces (inclusion_bits g labels s)))
 
 -- in the value tree of a grid, where distinct leaves are written one after another
-pub value_written : (t : Grove) (g : Grid) (labels : Labels) (before after : List Seat) (s : Seat) → t.cols ≡ g.cols → t.rows ≡ g.rows → AreDistinct (before ++ s ∷ after)
+pub value_written : (t : TreeState) (g : Grid) (labels : Labels) (before after : List Seat) (s : Seat) → t.cols ≡ g.cols → t.rows ≡ g.rows → AreDistinct (before ++ s ∷ after)
     → leaf_bits value_step (grid_of t) labels before s ≡ bits_of (map PlanesPiece (value_steps g labels (before ++ s ∷ after) s))
 value_written t g labels before after s c r d =
     let among = before ++ s ∷ after in

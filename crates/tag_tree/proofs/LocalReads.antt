@@ -4,6 +4,9 @@ use Rattle.std.proofs.lemmas.Bool.Decides.{eqb_tells}
 use Rattle.codestream_model.specs.TagTrees.{Seat}
 use Rattle.codestream_model.specs.HeaderPieces.{HeaderRefusal, ZeroPlanes}
 use Rattle.codestream_model.specs.PacketHeaderReading.{Node, Walked, Read, Got, AtEnd, Refused, and_then, unless, read_bit, node_of, known_label, read_label, read_inclusion, read_planes}
+use Rattle.tag_tree.specs.Kinds.{levels_reading}
+use Rattle.tag_tree.specs.declared.kind.Kind.{Kind}
+use Rattle.tag_tree.specs.declared.kind.Kind.TheVariants.{Inclusion, Value}
 use Rattle.tag_tree.proofs.AnswerLemmas.{known_or_not, when_known, when_below, when_met, at_leaf, planes_known, planes_met, planes_at_leaf}
 
 -- of the bits the first were taken, and this value is got of them whatever bits follow
@@ -97,3 +100,8 @@ local_planes (level ∷ levels) s above nodes = elim (known_or_not (known_label 
       local_same (read_planes (level ∷ levels) s above nodes) (λ l. and_then (read_label above l) next) (λ l. planes_met level levels s above nodes l k)
       (local_then (read_label above) next (local_label above) (λ value. local_planes levels s value (node_of level s value ∷ nodes)))
 ]
+
+-- and so a path of a tree of either kind
+pub local_levels : (kind : Kind) (levels : List ℕ) (s : Seat) (above : ℕ) (nodes : List Node) → IsLocal (levels_reading kind levels above s nodes)
+local_levels Inclusion levels s above nodes = local_inclusion levels s above nodes
+local_levels Value levels s above nodes = local_planes levels s above nodes

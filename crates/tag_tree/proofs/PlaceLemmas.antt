@@ -7,7 +7,7 @@ use Rattle.std.proofs.lemmas.Bool.Decides.{leb_tells}
 use Rattle.codestream_model.specs.TagTrees.{exponent}
 use Rattle.codestream_model.proofs.ExponentLemmas.{exponent_is_least}
 use Rattle.tag_tree.specs.Places.{width_of, size_of, base_of, place_of}
-use Rattle.tag_tree.specs.Grove.{nodes_of}
+use Rattle.tag_tree.specs.TreeState.{nodes_of}
 
 -- a leaf's path stays within the columns and rows of each level
 pub path_within : (n level x : ℕ) → x < n → x / 2 ^ level < width_of n level

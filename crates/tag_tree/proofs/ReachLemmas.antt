@@ -5,19 +5,19 @@ use Rattle.std.proofs.lemmas.List.{length-append, length-drop, drop-append-le}
 use Rattle.codestream_model.specs.Bytes.{bit}
 use Rattle.codestream_model.specs.StuffedBits.{number_of, width_after, packed_after, bytes_of_bits, carried_after}
 use Rattle.codestream_model.proofs.PackingLemmas.{width_cases}
-use Rattle.stuffed_bits.specs.Pen.{Pen}
-use Rattle.stuffed_bits.specs.Stands.{StandIn}
+use Rattle.stuffed_bits.specs.BitWriterState.{BitWriterState}
+use Rattle.stuffed_bits.specs.Carried.{Carries}
 use Rattle.stuffed_bits.specs.BitsWritten.{HasWritten, reach}
-use Rattle.stuffed_bits.proofs.PenLemmas.{reach_is}
+use Rattle.stuffed_bits.proofs.WriterLemmas.{reach_is}
 
--- the number that so many bits spell, by the bits in front
+-- the number that n bits spell, by the bits in front
 number_of_front : (n : ℕ) (bits more : List Bool) → n ≤ length bits → number_of n (bits ++ more) ≡ number_of n bits
 unfolding number_of
 number_of_front zero bits more h = refl
 number_of_front (suc n) [] more h = absurd (omega arith)
 number_of_front (suc n) (b ∷ bits) more h = ap (λ (v : ℕ). bit b * 2 ^ n + v) (number_of_front n bits more (omega arith))
 
--- how many bytes bits reach into behind a byte, by their first byte and the bits behind it
+-- how many bytes bits reach into after a byte, by their first byte and the bits after it
 abbrev behind_byte : ℕ → ℕ → List Bool → ℕ
 behind_byte room before bits = bytes_of_bits before (length bits) (packed_after room before bits)
 
@@ -82,16 +82,16 @@ none_reaches : reach [] ≡ 0
 unfolding packed_after bytes_of_bits
 none_reaches = refl
 
-in_no_byte : (bits spare : List Bool) (bytes : List ℕ) → bytes ≡ [] → StandIn bits spare bytes → bits ≡ []
+in_no_byte : (bits spare : List Bool) (bytes : List ℕ) → bytes ≡ [] → Carries bits spare bytes → bits ≡ []
 unfolding carried_after
 in_no_byte bits spare [] e s = no_bits bits spare s.filled
 in_no_byte bits spare (b ∷ bytes) e s = absurd (cc)
 
 -- bits that were written reach no further than the buffer
-pub written_within : (bits : List Bool) (buf : List ℕ) (w : Pen) → HasWritten bits buf w → reach bits ≤ length buf
+pub written_within : (bits : List Bool) (buf : List ℕ) (w : BitWriterState) → HasWritten bits buf w → reach bits ≤ length buf
 written_within bits buf w r = elim (eqb_tells w.len 0) [
   | inl t ↦
-      let none : bits ≡ [] = in_no_byte bits (replicate w.free false) (take w.len buf) (ap (λ (n : ℕ). take n buf) t.1) r.stands in
+      let none : bits ≡ [] = in_no_byte bits (replicate w.free false) (take w.len buf) (ap (λ (n : ℕ). take n buf) t.1) r.holds in
       omega (arith, ap reach none, none_reaches)
   | inr t ↦
       let ne : w.len ≢ 0 = t.1 in

@@ -9,7 +9,7 @@ use Rattle.codestream_model.specs.Values.{Grid}
 use Rattle.codestream_model.specs.TagTrees.{Seat, Labels, label, parent_label, shares, levels_from, root_level}
 use Rattle.codestream_model.proofs.TreeLemmas.{either, same_number, shared, or_false}
 use Rattle.tag_tree.specs.Places.{place_of}
-use Rattle.tag_tree.specs.Grove.{Grove}
+use Rattle.tag_tree.specs.TreeState.{TreeState}
 use Rattle.tag_tree.specs.LeafReading.{IsSameShape}
 use Rattle.tag_tree.specs.LeafWriting.{IsOn, Holds, HasMet, HasMetFrom, held, is_met, marked_at, node_bits, bits_down}
 use Rattle.tag_tree.proofs.PlaceLemmas.{levels_apart, same_node}
@@ -17,13 +17,13 @@ use Rattle.tag_tree.proofs.KnowLemmas.{set_other, apart}
 use Rattle.tag_tree.proofs.AnswerLemmas.{leaf_levels, lower_levels}
 
 -- nodes of different levels, and nodes that aren't shared, have different places
-pub other_level : (t : Grove) (l level : ℕ) (u s : Seat) → IsOn t u → IsOn t s → l ≢ level → place_of t.cols t.rows level s.col s.row ≢ place_of t.cols t.rows l u.col u.row
+pub other_level : (t : TreeState) (l level : ℕ) (u s : Seat) → IsOn t u → IsOn t s → l ≢ level → place_of t.cols t.rows level s.col s.row ≢ place_of t.cols t.rows l u.col u.row
 other_level t l level u s on at d e = elim (apart l level d) [
   | inl f ↦ levels_apart t.cols t.rows l level u.col u.row s.col s.row on.col on.row f (sym e)
   | inr f ↦ levels_apart t.cols t.rows level l s.col s.row u.col u.row at.col at.row f e
 ]
 
-pub other_node : (t : Grove) (level : ℕ) (u s : Seat) → IsOn t u → IsOn t s → shares level u s ≡ false → place_of t.cols t.rows level s.col s.row ≢ place_of t.cols t.rows level u.col u.row
+pub other_node : (t : TreeState) (level : ℕ) (u s : Seat) → IsOn t u → IsOn t s → shares level u s ≡ false → place_of t.cols t.rows level s.col s.row ≢ place_of t.cols t.rows level u.col u.row
 other_node t level u s on at d e =
     let n = same_node t.cols t.rows level s.col s.row u.col u.row at.col on.col e in
     let y : shares level u s ≡ true = rw (n.0, n.1, same_number (u.col / 2 ^ level), same_number (u.row / 2 ^ level)) refl in
@@ -31,7 +31,7 @@ other_node t level u s on at d e =
     cc
 
 -- a shared node has one place
-pub one_place : (t : Grove) (level : ℕ) (u s : Seat) → shares level u s ≡ true → place_of t.cols t.rows level u.col u.row ≡ place_of t.cols t.rows level s.col s.row
+pub one_place : (t : TreeState) (level : ℕ) (u s : Seat) → shares level u s ≡ true → place_of t.cols t.rows level u.col u.row ≡ place_of t.cols t.rows level s.col s.row
 one_place t level u s e = let p = shared level u s e in rw (p.0, p.1) refl
 
 -- one more leaf shares a node or doesn't
@@ -44,7 +44,7 @@ any_more level t s before =
     list_any-append (shares level t) before (s ∷ []) ∙ ap (λ (b : Bool). list_any (shares level t) before || b) (or_false (shares level t s))
 
 -- what is met of a level where a node is marked
-marked_level : (t : Grove) (before : List Seat) (s u : Seat) (level : ℕ) → IsOn t s → IsOn t u → place_of t.cols t.rows level s.col s.row < length t.met → is_met t level u ≡ list_any (shares level u) before
+marked_level : (t : TreeState) (before : List Seat) (s u : Seat) (level : ℕ) → IsOn t s → IsOn t u → place_of t.cols t.rows level s.col s.row < length t.met → is_met t level u ≡ list_any (shares level u) before
     → is_met (marked_at t (place_of t.cols t.rows level s.col s.row)) level u ≡ list_any (shares level u) (before ++ s ∷ [])
 marked_level t before s u level at on inside was =
     let p = place_of t.cols t.rows level s.col s.row in
@@ -60,7 +60,7 @@ marked_level t before s u level at on inside was =
     ]
 
 -- one level further down
-pub marks_node : (t : Grove) (before : List Seat) (s : Seat) (level : ℕ) → IsOn t s → place_of t.cols t.rows level s.col s.row < length t.met → HasMetFrom t before s (level + 1)
+pub marks_node : (t : TreeState) (before : List Seat) (s : Seat) (level : ℕ) → IsOn t s → place_of t.cols t.rows level s.col s.row < length t.met → HasMetFrom t before s (level + 1)
     → HasMetFrom (marked_at t (place_of t.cols t.rows level s.col s.row)) before s level
 marks_node t before s level at inside m =
     let p = place_of t.cols t.rows level s.col s.row in
@@ -84,17 +84,17 @@ marks_node t before s level at inside m =
     }
 
 -- above the root and at the leaves
-pub none_on_way : (t : Grove) (before : List Seat) (s : Seat) → HasMet t before → HasMetFrom t before s (t.root + 1)
+pub none_on_way : (t : TreeState) (before : List Seat) (s : Seat) → HasMet t before → HasMetFrom t before s (t.root + 1)
 none_on_way t before s m = record {
   upper = λ l u on from low. absurd (omega arith);
   lower = λ l u on below low. m.each l u on low;
 }
 
-pub all_on_way : (t : Grove) (before : List Seat) (s : Seat) → HasMetFrom t before s 0 → HasMet t (before ++ s ∷ [])
+pub all_on_way : (t : TreeState) (before : List Seat) (s : Seat) → HasMetFrom t before s 0 → HasMet t (before ++ s ∷ [])
 all_on_way t before s m = record { each = λ l u on low. m.upper l u on (omega arith) low }
 
 -- a tree that keeps its shape and its labels holds what it held
-pub still_holds : (t u : Grove) (labels : Labels) → u.labels ≡ t.labels → u.cols ≡ t.cols → u.rows ≡ t.rows → u.root ≡ t.root → Holds t labels → Holds u labels
+pub still_holds : (t u : TreeState) (labels : Labels) → u.labels ≡ t.labels → u.cols ≡ t.cols → u.rows ≡ t.rows → u.root ≡ t.root → Holds t labels → Holds u labels
 still_holds t u labels e c r o h = record {
   each = λ level s on low.
       let here : IsOn t s = record { col = rw c at on.col; row = rw r at on.row } in
@@ -102,14 +102,14 @@ still_holds t u labels e c r o h = record {
       same ∙ h.each level s here (rw o at low);
 }
 
-pub holds_after : (t u : Grove) (labels : Labels) → IsSameShape t u → u.labels ≡ t.labels → Holds t labels → Holds u labels
+pub holds_after : (t u : TreeState) (labels : Labels) → IsSameShape t u → u.labels ≡ t.labels → Holds t labels → Holds u labels
 holds_after t u labels same e h = still_holds t u labels e same.cols same.rows same.root h
 
 -- the bits of a node, by the labels and the leaves before
 abbrev pub first_bits : (ℕ → ℕ → List Bool) → Grid → Labels → List Seat → Seat → ℕ → List Bool
 first_bits step g labels before s level = if list_any (shares level s) before then [] else step (parent_label g labels level s) (label labels level s)
 
-pub node_bits_are : (step : ℕ → ℕ → List Bool) (t : Grove) (g : Grid) (labels : Labels) (before : List Seat) (s : Seat) (level above : ℕ) → IsOn t s → level ≤ t.root
+pub node_bits_are : (step : ℕ → ℕ → List Bool) (t : TreeState) (g : Grid) (labels : Labels) (before : List Seat) (s : Seat) (level above : ℕ) → IsOn t s → level ≤ t.root
     → Holds t labels → HasMetFrom t before s (level + 1) → above ≡ parent_label g labels level s
     → node_bits step t (place_of t.cols t.rows level s.col s.row) above ≡ first_bits step g labels before s level
 node_bits_are step t g labels before s level above at low h m e =
@@ -167,8 +167,8 @@ pub ok_then : {A E : Type 0} (r : Result A E) (P Q : A → Type 0) → IfOk r P 
 ok_then (Ok x) P Q h f = f x h
 ok_then (Err e) P Q h f = tt
 
--- the nodes that were met behind a leaf
-pub met_behind : (t u : Grove) (before : List Seat) (s : Seat) (top : ℕ) → top ≡ t.root → (HasMetFrom t before s (top + 1) → HasMetFrom u before s 0) → HasMet t before → HasMet u (before ++ s ∷ [])
+-- the nodes that were met after a leaf
+pub met_behind : (t u : TreeState) (before : List Seat) (s : Seat) (top : ℕ) → top ≡ t.root → (HasMetFrom t before s (top + 1) → HasMetFrom u before s 0) → HasMet t before → HasMet u (before ++ s ∷ [])
 met_behind t u before s top e f m =
     let P : ℕ → Type 0 = λ n. HasMetFrom t before s (n + 1) in
     all_on_way u before s (f (subst P (sym e) (none_on_way t before s m)))

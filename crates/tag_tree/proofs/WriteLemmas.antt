@@ -1,24 +1,24 @@
--- Bits that calls write, one call behind another.
+-- Bits that calls write, one call after another.
 use Rattle.std.proofs.Common.{◌≡◌, ◌≢◌, ◌<◌, ◌≤◌, ◌+◌, ◌-◌, ◌==◌, ◌↔◌, ℕ, suc, Bool, true, false, List, [], ◌∷◌, ◌++◌, length, drop, Result, Ok, Err, IfOk, IsErr, refl, sym, ◌∙◌, ap, subst, inl, inr, arith, append_assoc}
 use Rattle.std.proofs.lemmas.List.{append-nil, drop-drop}
 use Rattle.std.proofs.lemmas.Bool.Decides.{eqb_tells}
-use Rattle.stuffed_bits.specs.Pen.{Pen}
+use Rattle.stuffed_bits.specs.BitWriterState.{BitWriterState}
 use Rattle.stuffed_bits.specs.BitsWritten.{HasWritten, reach}
 use Rattle.stuffed_bits.specs.declared.bit_writer.Full.{Full}
 use Rattle.tag_tree.specs.LeafWriting.{Writes, inclusion_step, value_step}
 use Rattle.tag_tree.proofs.ReachLemmas.{past_with_more, written_within}
 
 -- no bits are written without a call
-pub writes_none : (A : Type 0) (bits : List Bool) (w : Pen) (buf : List ℕ) (x : A) → bits ≡ [] → Writes {A = A} bits w w buf buf (Ok x)
+pub writes_none : (A : Type 0) (bits : List Bool) (w : BitWriterState) (buf : List ℕ) (x : A) → bits ≡ [] → Writes {A = A} bits w w buf buf (Ok x)
 writes_none A bits w buf x none =
     let all : (done : List Bool) → HasWritten done buf w → HasWritten (done ++ bits) buf w =
     λ done r. (let P : List Bool → Type 0 = λ l. HasWritten l buf w in subst P (sym (ap (λ (l : List Bool). done ++ l) none ∙ append-nil done)) r) in
     record {
       full = λ done r. ((λ f. absurd (cc)), (λ h. absurd (omega (arith, written_within (done ++ bits) buf w (all done r)))));
-      stands = all;
+      holds = all;
     }
 
--- bits behind those that a call wrote
+-- bits after those that a call wrote
 full_behind : {B : Type 0} (bits more done : List Bool) (before between : List ℕ) (out : Result B Full) → length between ≡ length before
     → (IsErr out ↔ (length between < reach ((done ++ bits) ++ more))) → IsErr out ↔ (length before < reach (done ++ (bits ++ more)))
 full_behind bits more done before between out same here =
@@ -26,7 +26,7 @@ full_behind bits more done before between out same here =
     let Q : ℕ → Type 0 = λ n. IsErr out ↔ (n < reach ((done ++ bits) ++ more)) in
     subst P (append_assoc done bits more) (subst Q same here)
 
-stands_behind : {B : Type 0} (bits more : List Bool) (old mid new : Pen) (before between after : List ℕ) (out : Result B Full)
+stands_behind : {B : Type 0} (bits more : List Bool) (old mid new : BitWriterState) (before between after : List ℕ) (out : Result B Full)
     → ((done : List Bool) → HasWritten done before old → HasWritten (done ++ bits) between mid)
     → IfOk out (λ _. (done : List Bool) → HasWritten done between mid → HasWritten (done ++ more) after new)
     → IfOk out (λ _. (done : List Bool) → HasWritten done before old → HasWritten (done ++ (bits ++ more)) after new)
@@ -35,22 +35,22 @@ stands_behind bits more old mid new before between after (Ok x) one two = λ don
     let P : List Bool → Type 0 = λ l. HasWritten l after new in
     subst P (append_assoc done bits more) (two (done ++ bits) (one done r))
 
-pub writes_behind : (A B : Type 0) (bits more : List Bool) (old mid new : Pen) (before between after : List ℕ) (x : A) (out : Result B Full) → length between ≡ length before
+pub writes_behind : (A B : Type 0) (bits more : List Bool) (old mid new : BitWriterState) (before between after : List ℕ) (x : A) (out : Result B Full) → length between ≡ length before
     → Writes {A = A} bits old mid before between (Ok x) → Writes {A = B} more mid new between after out → Writes {A = B} (bits ++ more) old new before after out
 writes_behind A B bits more old mid new before between after x out same one two = record {
-  full = λ done r. full_behind bits more done before between out same (two.full (done ++ bits) (one.stands done r));
-  stands = stands_behind bits more old mid new before between after out one.stands two.stands;
+  full = λ done r. full_behind bits more done before between out same (two.full (done ++ bits) (one.holds done r));
+  holds = stands_behind bits more old mid new before between after out one.holds two.holds;
 }
 
--- bits behind those for which a call had no room
-pub writes_no_more : (A B : Type 0) (bits more : List Bool) (old new : Pen) (before after : List ℕ) (why : Full) (out : Result B Full) → IsErr out → Writes {A = A} bits old new before after (Err why) → Writes {A = B} (bits ++ more) old new before after out
+-- bits after those for which a call had no room
+pub writes_no_more : (A B : Type 0) (bits more : List Bool) (old new : BitWriterState) (before after : List ℕ) (why : Full) (out : Result B Full) → IsErr out → Writes {A = A} bits old new before after (Err why) → Writes {A = B} (bits ++ more) old new before after out
 writes_no_more A B bits more old new before after why (Ok x) is one = absurd (cc)
 writes_no_more A B bits more old new before after why (Err other) is one = record {
   full = λ done r. ((λ f. past_with_more done bits more (length before) ((one.full done r).0 refl)), (λ h. refl));
-  stands = tt;
+  holds = tt;
 }
 
--- bytes behind those of a second call, which are behind those of the first
+-- bytes after those of a second call, which are after those of the first
 pub behind_both : (before between after : List ℕ) (mid new : ℕ) → mid ≤ new → drop mid between ≡ drop mid before → drop new after ≡ drop new between → drop new after ≡ drop new before
 behind_both before between after mid new h e f =
     let i : mid + (new - mid) ≡ new = omega arith in
@@ -74,7 +74,7 @@ pub step_under_none : (above label : ℕ) → above ≡ 0 → inclusion_step abo
 step_under_none above label h = rw h refl
 
 -- a call that writes what another wrote
-pub writes_same : (A B : Type 0) (bits more : List Bool) (old new : Pen) (before after : List ℕ) (x : A) (y : B) → bits ≡ more → Writes {A = A} bits old new before after (Ok x) → Writes {A = B} more old new before after (Ok y)
+pub writes_same : (A B : Type 0) (bits more : List Bool) (old new : BitWriterState) (before after : List ℕ) (x : A) (y : B) → bits ≡ more → Writes {A = A} bits old new before after (Ok x) → Writes {A = B} more old new before after (Ok y)
 writes_same A B bits more old new before after x y e one =
     let P : List Bool → Type 0 = λ l. Writes {A = B} l old new before after (Ok y) in
-    subst P e (record { full = one.full; stands = one.stands })
+    subst P e (record { full = one.full; holds = one.holds })

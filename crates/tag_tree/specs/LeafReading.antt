@@ -1,74 +1,92 @@
 -- What a tree knows, and what is answered where a leaf is read.
-use Rattle.std.specs.Prelude.{◌≡◌, ◌<◌, ◌≤◌, ◌++◌, ℕ, Bool, true, false, List, length, drop, slice_index, slice_index_or, slice_set, Option, Some, None, if◌then◌else◌}
+use Rattle.std.specs.Prelude.{◌≡◌, ◌<◌, ◌≤◌, ◌++◌, ℕ, Bool, true, false, List, length, drop, slice_index, slice_index_or, slice_set, Option, Some, None, Result, Ok, Err, if◌then◌else◌}
 use Rattle.std.specs.List.{slice_range}
 use Rattle.codestream_model.specs.StuffedBits.{packed_bits}
-use Rattle.codestream_model.specs.TagTrees.{Seat, root_level, levels_from}
-use Rattle.codestream_model.specs.PacketHeaderReading.{Node, Walked, Read, Got, AtEnd, Refused, known_label, read_inclusion, read_planes}
-use Rattle.stuffed_bits.specs.Hand.{Hand}
-use Rattle.stuffed_bits.specs.BitsRead.{HasRead}
+use Rattle.codestream_model.specs.TagTrees.{Seat}
+use Rattle.codestream_model.specs.PacketHeaderReading.{Node, Walked, Read, Got, AtEnd, Refused, known_label}
+use Rattle.stuffed_bits.specs.BitInState.{BitInState}
+use Rattle.stuffed_bits.specs.BitsRead.{HasRead, stop_by}
+use Rattle.stuffed_bits.specs.declared.source.Source.{Source}
 use Rattle.tag_tree.specs.Places.{place_of}
-use Rattle.tag_tree.specs.Grove.{Grove}
-use Rattle.tag_tree.specs.declared.tree.TreeOut.{TreeOut}
-use Rattle.tag_tree.specs.declared.tree.TreeOut.TheVariants.{Value, Need, Stuffed, TooGreat}
+use Rattle.tag_tree.specs.TreeState.{TreeState}
+use Rattle.tag_tree.specs.LabelStops.{label_stop}
+use Rattle.tag_tree.specs.Kinds.{label_reading, node_reading, path_reading, leaf_reading}
+use Rattle.tag_tree.specs.declared.kind.Kind.{Kind}
+use Rattle.tag_tree.specs.declared.stop.LabelStop.{LabelStop}
+use Rattle.tag_tree.specs.declared.stop.LabelStop.TheVariants.{TooGreat}
+use Rattle.tag_tree.specs.declared.tree.PathNode.{PathNode}
 
--- the label that a place of the list tells, if its node was met
-abbrev pub told_at : Grove → ℕ → Option ℕ
+-- The label at an index of the list of nodes, if the node there was met.
+abbrev pub told_at : TreeState → ℕ → Option ℕ
 told_at t place = if slice_index_or t.met place false then Some (slice_index t.labels place) else None
 
--- the tree behind a node that is met
-abbrev pub met_at : Grove → ℕ → ℕ → Grove
+-- The tree after the node at an index is met with a label.
+abbrev pub met_at : TreeState → ℕ → ℕ → TreeState
 met_at t place v = record t { labels = slice_set t.labels place v; met = slice_set t.met place true }
 
--- a tree knows the labels of these nodes, and no others
-pub record Knows (t : Grove) (nodes : List Node) : Type 0 where
+-- A tree knows the labels of these nodes, and no others.
+pub record Knows (t : TreeState) (nodes : List Node) : Type 0 where
   pub told : (level : ℕ) (s : Seat) → s.col < t.cols → s.row < t.rows → level ≤ t.root → known_label level s nodes ≡ told_at t (place_of t.cols t.rows level s.col s.row)
 
--- a tree keeps its room and its shape
-pub record IsSameShape (before after : Grove) : Type 0 where
+-- A tree keeps its room and its shape.
+pub record IsSameShape (before after : TreeState) : Type 0 where
   pub leaves : after.leaves ≡ before.leaves
   pub cols : after.cols ≡ before.cols
   pub rows : after.rows ≡ before.rows
   pub root : after.root ≡ before.root
 
--- the bits of bytes behind those that were given
-abbrev pub behind : List Bool → List ℕ → List Bool
-behind done all = drop (length done) (packed_bits all).bits
+-- The node of a level on the path to the leaf at a column and a row, below a node with the label `above`.
+abbrev pub path_node : ℕ → ℕ → ℕ → ℕ → PathNode
+path_node level above col row = record { col = col; row = row; level = level; above = above }
 
--- the answer where no bit is left, by whether the stuffing is broken there
-abbrev pub none_left : Option ℕ → TreeOut
-none_left None = Need
-none_left (Some place) = Stuffed
+-- A node is on the path to a leaf of a tree.
+pub record IsNodeOf (t : TreeState) (n : PathNode) : Type 0 where
+  pub low : n.level ≤ t.root
+  pub col : n.col < t.cols
+  pub row : n.row < t.rows
 
--- The answer to the bits behind those that were given, by what is read of them: a label, with the nodes that are known then and
--- the bits that were given for it; that they are at their end; or that they are refused.
-abbrev pub IsAnswer : List Bool → List ℕ → List ℕ → Grove → Hand → TreeOut → Read Walked → Type 0
-IsAnswer done all taken t h out (Got w rest) = (out ≡ Value w.label) × Knows t w.nodes × ((more : List Bool) × (behind done all ≡ more ++ rest) × HasRead (done ++ more) taken h)
+-- `bits_after done all` is the bits of these bytes after those that were given.
+abbrev pub bits_after : List Bool → List ℕ → List Bool
+bits_after done all = drop (length done) (packed_bits all).bits
+
+-- The answer where no bit is left, by where the stuffing is broken, if it is.
+abbrev pub none_left : Option ℕ → Result ℕ LabelStop
+none_left broken_at = Err (label_stop (stop_by broken_at))
+
+-- The answer to a leaf, by what is read of the bits that are left: its label, with the nodes that are known then and the bits
+-- that were given for it; that the bits are at their end; or that the label is refused.
+abbrev pub IsAnswer : List Bool → List ℕ → List ℕ → TreeState → BitInState → Result ℕ LabelStop → Read Walked → Type 0
+IsAnswer done all taken t h out (Got w rest) = (out ≡ Ok w.label) × Knows t w.nodes × ((more : List Bool) × (bits_after done all ≡ more ++ rest) × HasRead (done ++ more) taken h)
 IsAnswer done all taken t h out AtEnd = out ≡ none_left (packed_bits all).broken_at
-IsAnswer done all taken t h out (Refused why) = out ≡ TooGreat
+IsAnswer done all taken t h out (Refused why) = out ≡ Err TooGreat
 
--- What is answered for a leaf is what this reading makes of the bits behind those that were given, from what is known: by the
--- tree and the reader before and after, the piece, and the places in it before and after.
-abbrev pub Reads : (Seat → List Node → List Bool → Read Walked) → ℕ → ℕ → Grove → Grove → Hand → Hand → List ℕ → ℕ → ℕ → TreeOut → Type 0
-Reads reading col row before after old new piece at end out =
-    (band : ℕ) (nodes : List Node) (done : List Bool) (bytes : List ℕ) → Knows before nodes → HasRead done bytes old
-    → IsAnswer done (bytes ++ drop at piece) (bytes ++ slice_range piece at end) after new out
-    (reading (record { band = band; col = col; row = row }) nodes (behind done (bytes ++ drop at piece)))
+-- The answer to a leaf at a column and a row is what `reading` makes of the bits that are left, from the nodes that are known.
+abbrev pub Reads : (Seat → List Node → List Bool → Read Walked) → ℕ → ℕ → TreeState → TreeState → Source → Source → Result ℕ LabelStop → Type 0
+Reads reading col row before after old new out =
+    (band : ℕ) (nodes : List Node) (done : List Bool) (bytes : List ℕ) → Knows before nodes → HasRead done bytes old.bits
+    → IsAnswer done (bytes ++ drop old.at old.piece.now) (bytes ++ slice_range old.piece.now old.at new.at) after new.bits out
+    (reading (record { band = band; col = col; row = row }) nodes (bits_after done (bytes ++ drop old.at old.piece.now)))
 
--- The reading of a leaf of an inclusion tree with this state.
-abbrev pub inclusion_reading : Grove → Seat → List Node → List Bool → Read Walked
-inclusion_reading t s nodes l = read_inclusion (levels_from (root_level (record { band = 0; cols = t.cols; rows = t.rows }))) s 0 nodes l
+-- The answer is the label of a node, read from the node above it.
+abbrev pub ReadsNode : Kind → PathNode → TreeState → TreeState → Source → Source → Result ℕ LabelStop → Type 0
+ReadsNode kind n before after old new out = Reads (node_reading kind n) n.col n.row before after old new out
 
--- The reading of a leaf of a value tree with this state.
-abbrev pub planes_reading : Grove → Seat → List Node → List Bool → Read Walked
-planes_reading t s nodes l = read_planes (levels_from (root_level (record { band = 0; cols = t.cols; rows = t.rows }))) s 0 nodes l
+-- The answer is the label of a leaf, read from a node of its path down.
+abbrev pub ReadsPath : Kind → PathNode → TreeState → TreeState → Source → Source → Result ℕ LabelStop → Type 0
+ReadsPath kind n before after old new out = Reads (path_reading kind n) n.col n.row before after old new out
 
--- the same of a single label, which no tree keeps
-abbrev pub IsLabel : List Bool → List ℕ → List ℕ → Hand → TreeOut → Read ℕ → Type 0
-IsLabel done all taken h out (Got v rest) = (out ≡ Value v) × ((more : List Bool) × (behind done all ≡ more ++ rest) × HasRead (done ++ more) taken h)
+-- The answer is the label of the leaf at a column and a row.
+abbrev pub ReadsLeaf : Kind → ℕ → ℕ → TreeState → TreeState → Source → Source → Result ℕ LabelStop → Type 0
+ReadsLeaf kind col row before after old new out = Reads (leaf_reading kind before) col row before after old new out
+
+-- The answer to a single label, which no tree keeps, by what is read of the bits that are left.
+abbrev pub IsLabel : List Bool → List ℕ → List ℕ → BitInState → Result ℕ LabelStop → Read ℕ → Type 0
+IsLabel done all taken h out (Got v rest) = (out ≡ Ok v) × ((more : List Bool) × (bits_after done all ≡ more ++ rest) × HasRead (done ++ more) taken h)
 IsLabel done all taken h out AtEnd = out ≡ none_left (packed_bits all).broken_at
-IsLabel done all taken h out (Refused why) = out ≡ TooGreat
+IsLabel done all taken h out (Refused why) = out ≡ Err TooGreat
 
-abbrev pub ReadsLabel : (List Bool → Read ℕ) → Hand → Hand → List ℕ → ℕ → ℕ → TreeOut → Type 0
-ReadsLabel reading old new piece at end out =
-    (done : List Bool) (bytes : List ℕ) → HasRead done bytes old
-    → IsLabel done (bytes ++ drop at piece) (bytes ++ slice_range piece at end) new out (reading (behind done (bytes ++ drop at piece)))
+-- The answer is the label of a node below one with the label `above`.
+abbrev pub ReadsLabel : Kind → ℕ → Source → Source → Result ℕ LabelStop → Type 0
+ReadsLabel kind above old new out =
+    (done : List Bool) (bytes : List ℕ) → HasRead done bytes old.bits
+    → IsLabel done (bytes ++ drop old.at old.piece.now) (bytes ++ slice_range old.piece.now old.at new.at) new.bits out (label_reading kind above (bits_after done (bytes ++ drop old.at old.piece.now)))

@@ -1,5 +1,7 @@
 pub mod Places
-pub mod Grove
+pub mod TreeState
+pub mod LabelStops
+pub mod Kinds
 pub mod LeafReading
 pub mod LeafGoing
 pub mod LeafWriting

@@ -1,10 +1,11 @@
-//! Where the nodes of a tree stand in one flat list: level by level from the leaves up, and each level row by row.
+//! The order of a tree's nodes in one list: level by level from the leaves up, and each level row by
+//! row.
 ghost use Rattle.std.specs.Prelude.{◌≡◌, ◌<◌, ◌≤◌, ◌+◌, ◌*◌, ℕ, slice_index};
 ghost use Rattle.codestream_model.specs.TagTrees.{exponent};
 ghost use Rattle.tag_tree.specs.Places.{width_of, base_of};
-ghost use Rattle.tag_tree.specs.Grove.{nodes_of};
+ghost use Rattle.tag_tree.specs.TreeState.{nodes_of};
 
-/// The number of nodes that a tree of so many leaves needs at most.
+/// The greatest number of nodes of a tree of `leaves` leaves.
 pub fn most_nodes(leaves: u32) -> usize
     ensures { result ≡ nodes_of leaves }
 {

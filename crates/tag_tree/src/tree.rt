@@ -1,63 +1,23 @@
 //! The tree: its labels, and which of its nodes were met.
-ghost use Rattle.std.specs.Prelude.{◌≡◌, ◌≢◌, ◌<◌, ◌≤◌, ◌*◌, ◌++◌, ℕ, Bool, List, [], ◌∷◌, false, length, replicate, drop, IfOk, if◌then◌else◌};
-ghost use Rattle.codestream_model.specs.TagTrees.{levels_from};
-ghost use Rattle.codestream_model.specs.PacketHeaderReading.{read_label, read_inclusion, read_planes};
+ghost use Rattle.std.specs.Prelude.{◌≡◌, ◌<◌, ◌≤◌, ◌*◌, ◌++◌, [], false, length, replicate, drop, IfOk};
 ghost use Rattle.tag_tree.specs.Places.{place_of};
-ghost use Rattle.stuffed_bits.specs.Hand.{IsFree, IsOfRun};
-ghost use Rattle.tag_tree.specs.LeafReading.{Knows, IsSameShape, inclusion_reading, planes_reading, Reads, ReadsLabel, told_at, met_at};
-ghost use Rattle.tag_tree.specs.LeafGoing.{WaitsFor, KeepsBits, IsFreeOrKnown};
+ghost use Rattle.tag_tree.specs.LeafReading.{Knows, told_at, met_at};
 
 use crate::layout::{LEVELS, bases, exponent_of, most_nodes, width};
 use std::alloc::{AllocError, Global};
 use std::marker::Model;
-use stuffed_bits::{BitIn, BitOut, RunOut};
 
-/// What is read of a leaf.
-#[derive(Clone, Copy, Debug, PartialEq, Eq)]
-pub enum TreeOut {
-    /// The leaf's label; in an inclusion tree 0 is included and 1 isn't.
-    Value(u8),
-    /// The piece is at its end, and a further bit is wanted of another byte.
-    Need,
-    /// The byte after FF has its top bit set.
-    Stuffed,
-    /// A label passed 74.
-    TooGreat,
-}
-
-/// The greatest label of a value tree.
-const GREATEST: u8 = 74;
-
-/// Reads a label of the value tree that is at least this one.
-fn label_from(least: u8, bits: &mut BitIn, piece: &[u8], at: &mut usize) -> TreeOut
-    requires inside { at.old ≤ length piece.now }
-    requires own { IsOfRun false bits.old.part }
-    ensures read { ReadsLabel (λ l. read_label least l) bits.old bits.new piece.now at.old at.new result }
-    ensures waits { KeepsBits bits.old bits.new piece.now at.old at.new result }
-    ensures free { (label : ℕ) → result ≡ TreeOut.Value label → IsFree bits.new }
-    ensures own { result ≡ TreeOut.Need → IsOfRun false bits.new.part }
-    ensures whole { result ≡ TreeOut.Need → at.new ≡ length piece.now }
-    ensures onward { at.old ≤ at.new }
-    ensures within { at.new ≤ length piece.now }
-{
-    let most = GREATEST.saturating_sub(least) + 1;
-    match bits.run(false, most, piece, at) {
-        RunOut::Need => TreeOut::Need,
-        RunOut::Stuffed => TreeOut::Stuffed,
-        RunOut::Run(zeros) => {
-            if zeros >= most {
-                return TreeOut::TooGreat;
-            }
-            TreeOut::Value(least + zeros)
-        }
-    }
-}
-
-/// The label that a bit gives a node of an inclusion tree.
-fn inclusion_label(included: bool) -> u8
-    ensures { result ≡ (if included then 0 else 1) }
-{
-    if included { 0 } else { 1 }
+/// A node on the path from the root to a leaf.
+#[derive(Clone, Copy)]
+pub struct PathNode {
+    /// The column of the leaf.
+    pub col: u32,
+    /// The row of the leaf.
+    pub row: u32,
+    /// The level of the node, where leaves have level 0.
+    pub level: u32,
+    /// The label of the node above it; 0 at the root.
+    pub above: u8,
 }
 
 /// Makes the first nodes ones that weren't met.
@@ -89,21 +49,35 @@ impl Model for Tree {
     ghost use Rattle.std.specs.Prelude.{◌≡◌, ◌<◌, ◌≤◌, ◌*◌, ℕ, length, max, slice_index};
     ghost use Rattle.tag_tree.specs.Places.{base_of};
     ghost use Rattle.codestream_model.specs.TagTrees.{exponent};
-    ghost use Rattle.tag_tree.specs.Grove.{Grove, nodes_of};
+    ghost use Rattle.tag_tree.specs.TreeState.{TreeState, nodes_of};
 
-    ghost Value = { Grove };
+    ghost Value = { TreeState };
 
-    ghost view = { λ t. record { leaves = t.leaves; cols = t.cols; rows = t.rows; root = t.root; labels = t.labels.items; met = t.met.items } };
+    ghost view = { λ t. record {
+      leaves = t.leaves;
+      cols = t.cols;
+      rows = t.rows;
+      root = t.root;
+      labels = t.labels.items;
+      met = t.met.items;
+    } };
 
-    ghost invariant = { λ t. (t.leaves ≤ 65536) × (t.cols * t.rows ≤ t.leaves) × (length t.labels.items ≡ nodes_of t.leaves) × (length t.met.items ≡ nodes_of t.leaves) × (t.root ≤ 16) × (0 < t.cols → 0 < t.rows → t.root ≡ exponent (max t.cols t.rows)) × ((level : ℕ) → level < 17 → slice_index t.bases level ≡ base_of t.cols t.rows level) };
+    ghost invariant = { λ t.
+        (t.leaves ≤ 65536)
+        × (t.cols * t.rows ≤ t.leaves)
+        × (length t.labels.items ≡ nodes_of t.leaves)
+        × (length t.met.items ≡ nodes_of t.leaves)
+        × (t.root ≤ 16)
+        × (0 < t.cols → 0 < t.rows → t.root ≡ exponent (max t.cols t.rows))
+        × ((level : ℕ) → level < 17 → slice_index t.bases level ≡ base_of t.cols t.rows level) };
 }
 
 impl Tree {
-    /// Takes room for a tree of so many leaves; it has none until `reset`.
+    /// Takes room for a tree of `leaves` leaves; it has none until `reset`.
     ///
     /// # Errors
     ///
-    /// `AllocError` at want of memory.
+    /// `AllocError` where there is no memory.
     pub fn reserve(alloc: Global, leaves: u32) -> Result<Tree, AllocError>
         requires { leaves ≤ 65536 }
         ensures { IfOk result (λ t. t.leaves ≡ leaves) }
@@ -120,7 +94,7 @@ impl Tree {
         })
     }
 
-    /// Makes this the tree of a grid, of which nothing is known. The leaves are no more than there is room for.
+    /// Makes this the tree of a grid, of whose nodes none is known. There is room for its leaves.
     pub fn reset(&mut self, cols: u32, rows: u32)
         requires { cols * rows ≤ self.old.leaves }
         ensures leaves { self.new.leaves ≡ self.old.leaves }
@@ -140,7 +114,7 @@ impl Tree {
         clear(&mut self.met, nodes);
     }
 
-    /// Where the node of a level on a leaf's path stands.
+    /// The index of the node of a level on a leaf's path.
     pub(crate) fn place(&self, level: u32, col: u32, row: u32) -> usize
         requires low { level ≤ self.now.root }
         requires col_in { col < self.now.cols }
@@ -155,7 +129,7 @@ impl Tree {
     }
 
     /// The label of a node, if it was met.
-    fn told(&self, place: usize) -> Option<u8>
+    pub(crate) fn told(&self, place: usize) -> Option<u8>
         requires labelled { place < length self.now.labels }
         requires listed { place < length self.now.met }
         ensures { result ≡ told_at self.now place }
@@ -168,230 +142,12 @@ impl Tree {
     }
 
     /// Meets a node.
-    fn meet(&mut self, place: usize, label: u8)
+    pub(crate) fn meet(&mut self, place: usize, label: u8)
         requires labelled { place < length self.old.labels }
         requires listed { place < length self.old.met }
         ensures { self.new ≡ met_at self.old place label }
     {
         self.labels[place] = label;
         self.met[place] = true;
-    }
-
-    /// Reads a node of the inclusion tree, by the label of the node above it.
-    fn node_inclusion(
-        &mut self,
-        level: u32,
-        above: u8,
-        col: u32,
-        row: u32,
-        bits: &mut BitIn,
-        piece: &[u8],
-        at: &mut usize,
-    ) -> TreeOut
-        requires low { level ≤ self.old.root }
-        requires col_in { col < self.old.cols }
-        requires row_in { row < self.old.rows }
-        requires inside { at.old ≤ length piece.now }
-        requires free { IsFree bits.old }
-        ensures read { Reads (λ s nodes l. read_inclusion (level ∷ []) s above nodes l) col row self.old self.new bits.old bits.new piece.now at.old at.new result }
-        ensures never { result ≢ TreeOut.TooGreat }
-        ensures waits { result ≡ TreeOut.Need → WaitsFor (λ s nodes l. read_inclusion (level ∷ []) s above nodes l) level col row self.old self.new bits.old bits.new piece.now at.old at.new }
-        ensures free { IsFree bits.new }
-        ensures whole { result ≡ TreeOut.Need → at.new ≡ length piece.now }
-        ensures same { IsSameShape self.old self.new }
-        ensures onward { at.old ≤ at.new }
-        ensures within { at.new ≤ length piece.now }
-    {
-        let place = self.place(level, col, row);
-        if let Some(label) = self.told(place) {
-            return TreeOut::Value(label);
-        }
-        if above != 0 {
-            return TreeOut::Value(above);
-        }
-        match bits.bit(piece, at) {
-            BitOut::Need => TreeOut::Need,
-            BitOut::Stuffed => TreeOut::Stuffed,
-            BitOut::Bit(included) => {
-                let label = inclusion_label(included);
-                self.meet(place, label);
-                TreeOut::Value(label)
-            }
-        }
-    }
-
-    /// Reads the rest of a leaf's path in the inclusion tree, from this level down.
-    fn path_inclusion(
-        &mut self,
-        level: u32,
-        above: u8,
-        col: u32,
-        row: u32,
-        bits: &mut BitIn,
-        piece: &[u8],
-        at: &mut usize,
-    ) -> TreeOut
-        requires low { level ≤ self.old.root }
-        requires col_in { col < self.old.cols }
-        requires row_in { row < self.old.rows }
-        requires inside { at.old ≤ length piece.now }
-        requires free { IsFree bits.old }
-        ensures read { Reads (λ s nodes l. read_inclusion (levels_from level) s above nodes l) col row self.old self.new bits.old bits.new piece.now at.old at.new result }
-        ensures never { result ≢ TreeOut.TooGreat }
-        ensures waits { result ≡ TreeOut.Need → WaitsFor (λ s nodes l. read_inclusion (levels_from level) s above nodes l) level col row self.old self.new bits.old bits.new piece.now at.old at.new }
-        ensures free { IsFree bits.new }
-        ensures whole { result ≡ TreeOut.Need → at.new ≡ length piece.now }
-        ensures same { IsSameShape self.old self.new }
-        ensures onward { at.old ≤ at.new }
-        ensures within { at.new ≤ length piece.now }
-    {
-        let out = self.node_inclusion(level, above, col, row, bits, piece, at);
-        if level == 0 {
-            return out;
-        }
-        match out {
-            TreeOut::Value(label) => self.path_inclusion(
-                level - 1,
-                label,
-                col,
-                row,
-                bits,
-                piece,
-                at,
-            ),
-            _ => out,
-        }
-    }
-
-    /// Reads a leaf of the inclusion tree: 0 where it is included, else 1.
-    ///
-    /// `piece` are the bytes at hand, and `at` is the index in them after the last byte that was taken.
-    /// After `Need` only the same call with a further piece, or `reset`, may follow, and after
-    /// `Stuffed` only `reset`.
-    pub fn read_inclusion(
-        &mut self,
-        col: u32,
-        row: u32,
-        bits: &mut BitIn,
-        piece: &[u8],
-        at: &mut usize,
-    ) -> TreeOut
-        requires col_in { col < self.old.cols }
-        requires row_in { row < self.old.rows }
-        requires inside { at.old ≤ length piece.now }
-        requires free { IsFree bits.old }
-        ensures read { Reads (inclusion_reading self.old) col row self.old self.new bits.old bits.new piece.now at.old at.new result }
-        ensures never { result ≢ TreeOut.TooGreat }
-        ensures waits { result ≡ TreeOut.Need → WaitsFor (inclusion_reading self.old) self.old.root col row self.old self.new bits.old bits.new piece.now at.old at.new }
-        ensures free { IsFree bits.new }
-        ensures whole { result ≡ TreeOut.Need → at.new ≡ length piece.now }
-        ensures same { IsSameShape self.old self.new }
-        ensures onward { at.old ≤ at.new }
-        ensures within { at.new ≤ length piece.now }
-    {
-        self.path_inclusion(self.root, 0, col, row, bits, piece, at)
-    }
-
-    /// Reads a node of the value tree, by the label of the node above it.
-    fn node_value(
-        &mut self,
-        level: u32,
-        above: u8,
-        col: u32,
-        row: u32,
-        bits: &mut BitIn,
-        piece: &[u8],
-        at: &mut usize,
-    ) -> TreeOut
-        requires low { level ≤ self.old.root }
-        requires col_in { col < self.old.cols }
-        requires row_in { row < self.old.rows }
-        requires inside { at.old ≤ length piece.now }
-        requires own { IsOfRun false bits.old.part }
-        ensures read { Reads (λ s nodes l. read_planes (level ∷ []) s above nodes l) col row self.old self.new bits.old bits.new piece.now at.old at.new result }
-        ensures waits { result ≡ TreeOut.Need → WaitsFor (λ s nodes l. read_planes (level ∷ []) s above nodes l) level col row self.old self.new bits.old bits.new piece.now at.old at.new }
-        ensures free { (label : ℕ) → result ≡ TreeOut.Value label → IsFreeOrKnown (λ s nodes l. read_planes (level ∷ []) s above nodes l) col row label self.old self.new bits.old bits.new }
-        ensures own { result ≡ TreeOut.Need → IsOfRun false bits.new.part }
-        ensures whole { result ≡ TreeOut.Need → at.new ≡ length piece.now }
-        ensures same { IsSameShape self.old self.new }
-        ensures onward { at.old ≤ at.new }
-        ensures within { at.new ≤ length piece.now }
-    {
-        let place = self.place(level, col, row);
-        if let Some(label) = self.told(place) {
-            return TreeOut::Value(label);
-        }
-        let out = label_from(above, bits, piece, at);
-        match out {
-            TreeOut::Value(label) => {
-                self.meet(place, label);
-                TreeOut::Value(label)
-            }
-            _ => out,
-        }
-    }
-
-    /// Reads the rest of a leaf's path in the value tree, from this level down.
-    fn path_value(
-        &mut self,
-        level: u32,
-        above: u8,
-        col: u32,
-        row: u32,
-        bits: &mut BitIn,
-        piece: &[u8],
-        at: &mut usize,
-    ) -> TreeOut
-        requires low { level ≤ self.old.root }
-        requires col_in { col < self.old.cols }
-        requires row_in { row < self.old.rows }
-        requires inside { at.old ≤ length piece.now }
-        requires own { IsOfRun false bits.old.part }
-        ensures read { Reads (λ s nodes l. read_planes (levels_from level) s above nodes l) col row self.old self.new bits.old bits.new piece.now at.old at.new result }
-        ensures waits { result ≡ TreeOut.Need → WaitsFor (λ s nodes l. read_planes (levels_from level) s above nodes l) level col row self.old self.new bits.old bits.new piece.now at.old at.new }
-        ensures free { (label : ℕ) → result ≡ TreeOut.Value label → IsFreeOrKnown (λ s nodes l. read_planes (levels_from level) s above nodes l) col row label self.old self.new bits.old bits.new }
-        ensures own { result ≡ TreeOut.Need → IsOfRun false bits.new.part }
-        ensures whole { result ≡ TreeOut.Need → at.new ≡ length piece.now }
-        ensures same { IsSameShape self.old self.new }
-        ensures onward { at.old ≤ at.new }
-        ensures within { at.new ≤ length piece.now }
-    {
-        let out = self.node_value(level, above, col, row, bits, piece, at);
-        if level == 0 {
-            return out;
-        }
-        match out {
-            TreeOut::Value(label) => self.path_value(level - 1, label, col, row, bits, piece, at),
-            _ => out,
-        }
-    }
-
-    /// Reads a leaf of the value tree, 0 to 74.
-    ///
-    /// `piece` and `at` are as for `read_inclusion`. After `Need` only the same call with a further
-    /// piece, or `reset`, may follow, and after `Stuffed` and `TooGreat` only `reset`.
-    pub fn read_value(
-        &mut self,
-        col: u32,
-        row: u32,
-        bits: &mut BitIn,
-        piece: &[u8],
-        at: &mut usize,
-    ) -> TreeOut
-        requires col_in { col < self.old.cols }
-        requires row_in { row < self.old.rows }
-        requires inside { at.old ≤ length piece.now }
-        requires own { IsOfRun false bits.old.part }
-        ensures read { Reads (planes_reading self.old) col row self.old self.new bits.old bits.new piece.now at.old at.new result }
-        ensures waits { result ≡ TreeOut.Need → WaitsFor (planes_reading self.old) self.old.root col row self.old self.new bits.old bits.new piece.now at.old at.new }
-        ensures free { (label : ℕ) → result ≡ TreeOut.Value label → IsFreeOrKnown (planes_reading self.old) col row label self.old self.new bits.old bits.new }
-        ensures fresh { (label : ℕ) → result ≡ TreeOut.Value label → IsFree bits.old → IsFree bits.new }
-        ensures own { result ≡ TreeOut.Need → IsOfRun false bits.new.part }
-        ensures whole { result ≡ TreeOut.Need → at.new ≡ length piece.now }
-        ensures same { IsSameShape self.old self.new }
-        ensures onward { at.old ≤ at.new }
-        ensures within { at.new ≤ length piece.now }
-    {
-        self.path_value(self.root, 0, col, row, bits, piece, at)
     }
 }

@@ -1,17 +1,11 @@
 //! The writing half: labels from the leaves, and the bits of each leaf.
 ghost use Rattle.std.specs.Prelude.{◌≡◌, ◌<◌, ◌≤◌, ◌*◌, [], length, drop, slice_index, IfOk};
-ghost use Rattle.tag_tree.specs.LeafReading.{Knows, IsSameShape};
-ghost use Rattle.tag_tree.specs.LeafWriting.{HoldsLeast, HasMet, IsLowered, Writes, WritesLeaf, WritesDown, MeetsLeaf, MeetsDown, lowered_at, marked_at, node_bits, inclusion_step, value_step, step_of};
+ghost use Rattle.tag_tree.specs.LeafReading.{Knows, IsSameShape, IsNodeOf};
+ghost use Rattle.tag_tree.specs.LeafWriting.{HoldsLeast, HasMet, IsLowered, Writes, WritesLeaf, WritesPath, MeetsLeaf, MeetsDown, lowered_at, marked_at, node_bits, inclusion_step, value_step, step_of};
 
-use crate::tree::Tree;
+use crate::kind::Kind;
+use crate::tree::{PathNode, Tree};
 use stuffed_bits::{BitWriter, Full};
-
-/// Which of the two trees of a band is written.
-#[derive(Clone, Copy)]
-enum Kind {
-    Inclusion,
-    Value,
-}
 
 /// Writes a label of the value tree: a zero for each number that it is above another label, and a one.
 fn put_value(above: u8, label: u8, bits: &mut BitWriter, buf: &mut [u8]) -> Result<(), Full>
@@ -19,7 +13,7 @@ fn put_value(above: u8, label: u8, bits: &mut BitWriter, buf: &mut [u8]) -> Resu
     ensures bits { Writes (value_step above label) bits.old bits.new buf.old buf.new result }
     ensures onward { bits.old.len ≤ bits.new.len }
     ensures within { bits.new.len ≤ length buf.new }
-    ensures behind { drop bits.new.len buf.new ≡ drop bits.new.len buf.old }
+    ensures beyond { drop bits.new.len buf.new ≡ drop bits.new.len buf.old }
 {
     if label <= above {
         return bits.put(true, buf);
@@ -40,7 +34,7 @@ fn put_step(
     ensures bits { Writes (step_of kind above label) bits.old bits.new buf.old buf.new result }
     ensures onward { bits.old.len ≤ bits.new.len }
     ensures within { bits.new.len ≤ length buf.new }
-    ensures behind { drop bits.new.len buf.new ≡ drop bits.new.len buf.old }
+    ensures beyond { drop bits.new.len buf.new ≡ drop bits.new.len buf.old }
 {
     match kind {
         Kind::Value => put_value(above, label, bits, buf),
@@ -67,7 +61,8 @@ impl Tree {
         requires low { level ≤ self.old.root }
         requires col_in { col < self.old.cols }
         requires row_in { row < self.old.rows }
-        ensures lowered { IsLowered self.old self.new (record { band = 0; col = col; row = row }) label level }
+        ensures lowered { IsLowered self.old self.new
+            (record { band = 0; col = col; row = row }) label level }
         ensures met { self.new.met ≡ self.old.met }
         ensures same { IsSameShape self.old self.new }
     {
@@ -118,10 +113,11 @@ impl Tree {
         requires inside { bits.old.len ≤ length buf.old }
         ensures label { IfOk result (λ v. v ≡ slice_index self.old.labels place) }
         ensures met { self.new ≡ marked_at self.old place }
-        ensures bits { Writes (node_bits (step_of kind) self.old place above) bits.old bits.new buf.old buf.new result }
+        ensures bits { Writes (node_bits (step_of kind) self.old place above)
+            bits.old bits.new buf.old buf.new result }
         ensures onward { bits.old.len ≤ bits.new.len }
         ensures within { bits.new.len ≤ length buf.new }
-        ensures behind { drop bits.new.len buf.new ≡ drop bits.new.len buf.old }
+        ensures beyond { drop bits.new.len buf.new ≡ drop bits.new.len buf.old }
     {
         let label = self.labels[place];
         if self.met[place] {
@@ -132,35 +128,35 @@ impl Tree {
         Ok(label)
     }
 
-    /// Writes the rest of a leaf's path, from this level down.
+    /// Writes the rest of a leaf's path, from a node of it down.
     fn put_path(
         &mut self,
         kind: Kind,
-        level: u32,
-        above: u8,
-        col: u32,
-        row: u32,
+        node: PathNode,
         bits: &mut BitWriter,
         buf: &mut [u8],
     ) -> Result<(), Full>
-        requires low { level ≤ self.old.root }
-        requires col_in { col < self.old.cols }
-        requires row_in { row < self.old.rows }
+        requires node { IsNodeOf self.old node }
         requires inside { bits.old.len ≤ length buf.old }
-        ensures bits { WritesDown (step_of kind) level above col row self.old bits.old bits.new buf.old buf.new result }
-        ensures met { IfOk result (λ _. MeetsDown level col row self.old self.new) }
+        ensures bits { WritesPath kind node self.old bits.old bits.new buf.old buf.new result }
+        ensures met { IfOk result (λ _. MeetsDown node.level node.col node.row self.old self.new) }
         ensures labels { self.new.labels ≡ self.old.labels }
         ensures same { IsSameShape self.old self.new }
         ensures onward { bits.old.len ≤ bits.new.len }
         ensures within { bits.new.len ≤ length buf.new }
-        ensures behind { drop bits.new.len buf.new ≡ drop bits.new.len buf.old }
+        ensures beyond { drop bits.new.len buf.new ≡ drop bits.new.len buf.old }
     {
-        let place = self.place(level, col, row);
-        let label = self.put_node(kind, place, above, bits, buf)?;
-        if level == 0 {
+        let place = self.place(node.level, node.col, node.row);
+        let label = self.put_node(kind, place, node.above, bits, buf)?;
+        if node.level == 0 {
             return Ok(());
         }
-        self.put_path(kind, level - 1, label, col, row, bits, buf)
+        let below = PathNode {
+            level: node.level - 1,
+            above: label,
+            ..node
+        };
+        self.put_path(kind, below, bits, buf)
     }
 
     /// Writes a leaf of the inclusion tree, 0 where it is included, else 1: of each node on its path that no leaf before it met
@@ -181,15 +177,22 @@ impl Tree {
         requires col_in { col < self.old.cols }
         requires row_in { row < self.old.rows }
         requires inside { bits.old.len ≤ length buf.old }
-        ensures bits { WritesLeaf inclusion_step col row self.old bits.old bits.new buf.old buf.new result }
+        ensures bits { WritesLeaf inclusion_step col row self.old
+            bits.old bits.new buf.old buf.new result }
         ensures met { IfOk result (λ _. MeetsLeaf col row self.old self.new) }
         ensures labels { self.new.labels ≡ self.old.labels }
         ensures same { IsSameShape self.old self.new }
         ensures onward { bits.old.len ≤ bits.new.len }
         ensures within { bits.new.len ≤ length buf.new }
-        ensures behind { drop bits.new.len buf.new ≡ drop bits.new.len buf.old }
+        ensures beyond { drop bits.new.len buf.new ≡ drop bits.new.len buf.old }
     {
-        self.put_path(Kind::Inclusion, self.root, 0, col, row, bits, buf)
+        let root = PathNode {
+            col,
+            row,
+            level: self.root,
+            above: 0,
+        };
+        self.put_path(Kind::Inclusion, root, bits, buf)
     }
 
     /// Writes a leaf of the value tree: of each node on its path that no leaf before it met a zero for each number that its
@@ -210,14 +213,21 @@ impl Tree {
         requires col_in { col < self.old.cols }
         requires row_in { row < self.old.rows }
         requires inside { bits.old.len ≤ length buf.old }
-        ensures bits { WritesLeaf value_step col row self.old bits.old bits.new buf.old buf.new result }
+        ensures bits { WritesLeaf value_step col row self.old
+            bits.old bits.new buf.old buf.new result }
         ensures met { IfOk result (λ _. MeetsLeaf col row self.old self.new) }
         ensures labels { self.new.labels ≡ self.old.labels }
         ensures same { IsSameShape self.old self.new }
         ensures onward { bits.old.len ≤ bits.new.len }
         ensures within { bits.new.len ≤ length buf.new }
-        ensures behind { drop bits.new.len buf.new ≡ drop bits.new.len buf.old }
+        ensures beyond { drop bits.new.len buf.new ≡ drop bits.new.len buf.old }
     {
-        self.put_path(Kind::Value, self.root, 0, col, row, bits, buf)
+        let root = PathNode {
+            col,
+            row,
+            level: self.root,
+            above: 0,
+        };
+        self.put_path(Kind::Value, root, bits, buf)
     }
 }

@@ -24,6 +24,7 @@ use Rattle.stream_model.proofs.Thinned.{filter-map, thinned_does_not_arrive, thi
 use Rattle.stream_model.proofs.ThinnedCuts.{cut_carries}
 use Rattle.trial_model.specs.Draws.{next_state, drawn, Drawn, item_before}
 use Rattle.trial_model.specs.Trial.{trial_plan, not_lost, arrives, exchanged_pairs, first_kept, thinned_positions}
+use Rattle.stream_model.specs.Receiver.{received, flushed}
 use Rattle.trial_model.specs.TrialLaws.{DeliveredAreWithin, trial_pick, thinned_list, TrialCountsWhatIsReceived}
 
 -- numbers below a bound
@@ -150,5 +151,5 @@ trial_counts_what_is_received parts codestreams window limit delivered r some be
     record {
       thinned = ap length (filter-map (datagram_at datagrams) (is_kept limit) delivered) ∙ length-map positions (datagram_at datagrams);
       kept = ap (λ (n : Counts). n.kept) g.2;
-      released = ap length g.1 ∙ one_each sent (due_at_end positions window (carried sent)) said;
+      released = sym (length-map (flushed (received (trial_pick window) frames)).releases (λ x. x.precinct)) ∙ (ap length g.1 ∙ one_each sent (due_at_end positions window (carried sent)) said);
     }

@@ -26,7 +26,7 @@ thinned_list parts limit delivered =
 pub record ShowsCounts (c : TrialCounts) (frames : List (List ℕ)) (end : Receiver) : Type 0 where
   pub thinned : length frames ≡ c.thinned
   pub kept : end.kept ≡ c.kept
-  pub released : length end.precincts ≡ c.released
+  pub released : length end.releases ≡ c.released
 
 -- Where its codestreams can be sent, a trial counts what the receiver's rules make of the thinned
 -- list.

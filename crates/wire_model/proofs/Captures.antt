@@ -27,7 +27,7 @@ main_header_of_three =
 unfoldable pub main_of_a : List ℕ
 main_of_a = 128 ∷ 96 ∷ 0 ∷ 0 ∷ 0 ∷ 0 ∷ 0 ∷ 0 ∷ 0 ∷ 0 ∷ 0 ∷ 1 ∷ 196 ∷ 0 ∷ 0 ∷ 0 ∷ 0 ∷ 0 ∷ 0 ∷ 0 ∷ [] ++ main_header
 
--- a Body of RES 7 with ORDB 1 and POS 0, marker 1 and sequence number 1, and the six bytes of the codestream behind that header
+-- a Body of RES 7 with ORDB 1 and POS 0, marker 1 and sequence number 1, and the six bytes of the codestream after that header
 unfoldable pub body_of_a : List ℕ
 body_of_a = 128 ∷ 224 ∷ 0 ∷ 1 ∷ 0 ∷ 0 ∷ 0 ∷ 0 ∷ 0 ∷ 0 ∷ 0 ∷ 1 ∷ 7 ∷ 128 ∷ 0 ∷ 0 ∷ 0 ∷ 0 ∷ 0 ∷ 0 ∷ 200 ∷ 128 ∷ 170 ∷ 187 ∷ 255 ∷ 217 ∷ []
 
@@ -42,7 +42,7 @@ capture_a =
     ∷ 10 ∷ 0 ∷ 0 ∷ 0 ∷ 0 ∷ 0 ∷ 0 ∷ 0 ∷ 1 ∷ 255 ∷ 147 ∷ 0 ∷ 26 ∷ 128 ∷ 224 ∷ 0 ∷ 1 ∷ 0 ∷ 0 ∷ 0
     ∷ 0 ∷ 0 ∷ 0 ∷ 0 ∷ 1 ∷ 7 ∷ 128 ∷ 0 ∷ 0 ∷ 0 ∷ 0 ∷ 0 ∷ 0 ∷ 200 ∷ 128 ∷ 170 ∷ 187 ∷ 255 ∷ 217 ∷ []
 
--- a packet of a hundred bytes that are all the same, behind its two bytes of header
+-- a packet of a hundred bytes that are all the same, after its two bytes of header
 abbrev pub packet : ℕ → List ℕ
 packet byte = 239 ∷ 100 ∷ replicate 100 byte
 

@@ -1,9 +1,9 @@
--- Lists in parts: what lies behind a front, and a range in the midst.
+-- Lists in parts: what lies after a front, and a range in the midst.
 use Rattle.std.proofs.Common.{◌≡◌, ◌≤◌, ◌+◌, ◌-◌, ℕ, suc, Bool, true, false, List, [], ◌∷◌, ◌++◌, length, take, drop, get_or, refl, sym, ap, ◌∙◌, arith, append_assoc, inl, inr, ◌⊎◌, length-take-le}
 use Rattle.std.specs.Prelude.{slice_range, ◌&&◌, if◌then◌else◌}
 use Rattle.std.proofs.lemmas.List.{take_at, drop_at, length-append, length-drop}
 
--- an item behind a front
+-- an item after a front
 pub behind : (xs ys : List ℕ) (k : ℕ) → get_or (xs ++ ys) (length xs + k) 0 ≡ get_or ys k 0
 behind [] ys k = ap (λ n. get_or ys n 0) (let e : 0 + k ≡ k = omega arith in e)
 behind (x ∷ xs) ys k = ap (λ n. get_or (x ∷ (xs ++ ys)) n 0) (let e : suc (length xs) + k ≡ suc (length xs + k) = omega arith in e) ∙ behind xs ys k

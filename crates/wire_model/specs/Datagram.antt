@@ -5,13 +5,13 @@ use Rattle.wire_model.specs.RtpReading.{is_rtp, rtp_fields, payload_end}
 use Rattle.wire_model.specs.Payload.{PayloadFields, IsPayload}
 use Rattle.wire_model.specs.PayloadReading.{is_payload, payload_fields, codestream_start}
 
--- what is read of a datagram
+-- What is read of a datagram.
 pub record Datagram : Type 0 where
   pub rtp : RtpFields
   pub payload : PayloadFields
   pub codestream : List ℕ
 
--- the bytes are this datagram, in one of at most 9,000 bytes
+-- The bytes, at most 9,000 of them, are this datagram.
 pub record IsDatagram (x : Datagram) (bytes : List ℕ) : Type 0 where
   pub header : List ℕ
   pub body : List ℕ
@@ -20,19 +20,19 @@ pub record IsDatagram (x : Datagram) (bytes : List ℕ) : Type 0 where
   pub is_rtp : IsRtp x.rtp header body bytes
   pub is_payload : IsPayload x.payload x.codestream body
 
--- a well-formed datagram
+-- The bytes are a well-formed datagram.
 abbrev pub IsWellFormed : List ℕ → Type 0
 IsWellFormed bytes = (x : Datagram) × IsDatagram x bytes
 
--- the same computed: RTP's payload,
+-- RTP's payload, computed.
 abbrev pub rtp_payload : List ℕ → List ℕ
 rtp_payload b = slice_range b (header_length b) (payload_end b)
 
--- whether it is a datagram,
+-- Whether the bytes are a datagram, computed.
 abbrev pub is_well_formed : List ℕ → Bool
 is_well_formed b = nat_le 1 (length b) && nat_le (length b) 9000 && is_rtp b && is_payload (rtp_payload b)
 
--- and which
+-- The datagram that the bytes are, computed.
 abbrev pub datagram_of : List ℕ → Datagram
 datagram_of b = record {
   rtp = rtp_fields b;

@@ -9,37 +9,38 @@ use Rattle.wire_model.specs.PayloadReading.{is_payload, payload_fields, codestre
 use Rattle.wire_model.specs.Datagram.{Datagram, IsDatagram, datagram_of, is_well_formed}
 use Rattle.wire_model.specs.Thinning.{IsKept, is_kept}
 
--- the frames of bytes are those that are computed, and what is left is the rest
+-- The frames of bytes are those that are computed, and what is left is the rest.
 abbrev pub FramesAreComputed : Type 0
 FramesAreComputed = (bytes : List ℕ) (frames : List (List ℕ)) (rest : List ℕ) → Splits bytes frames rest → (frames ≡ whole_frames bytes) × (rest ≡ drop (length (framing (whole_frames bytes))) bytes)
 
--- bytes split into frames
+-- Any bytes are the frames that are computed, and a rest.
 abbrev pub BytesSplit : Type 0
 BytesSplit = (bytes : List ℕ) → IsBytes bytes → Splits bytes (whole_frames bytes) (drop (length (framing (whole_frames bytes))) bytes)
 
--- an RTP datagram that is laid out so is read so,
+-- An RTP datagram is read as it is laid out.
 abbrev pub RtpIsReadOneWay : Type 0
 RtpIsReadOneWay = (h : RtpFields) (header payload b : List ℕ) → IsRtp h header payload b → (is_rtp b ≡ true) × (h ≡ rtp_fields b) × (header ≡ take (header_length b) b) × (payload ≡ slice_range b (header_length b) (payload_end b)) × (length header + length payload ≡ payload_end b) × (header_length b ≡ length header)
 
--- and what is read is laid out so
+-- What is read as an RTP datagram is laid out as it is read.
 abbrev pub RtpReadsAsLaidOut : Type 0
 RtpReadsAsLaidOut = (b : List ℕ) → IsBytes b → is_rtp b ≡ true → IsRtp (rtp_fields b) (take (header_length b) b) (slice_range b (header_length b) (payload_end b)) b
 
--- a payload that is laid out so is read so,
+-- A payload is read as it is laid out.
 abbrev pub PayloadIsReadOneWay : Type 0
 PayloadIsReadOneWay = (h : PayloadFields) (codestream b : List ℕ) → IsPayload h codestream b → (is_payload b ≡ true) × (h ≡ payload_fields b) × (codestream ≡ drop (codestream_start b) b)
 
--- and what is read is laid out so
+-- What is read as a payload is laid out as it is read.
 abbrev pub PayloadReadsAsLaidOut : Type 0
 PayloadReadsAsLaidOut = (b : List ℕ) → IsBytes b → is_payload b ≡ true → IsPayload (payload_fields b) (drop (codestream_start b) b) b
 
--- the datagram of bytes is the one that is computed
+-- The datagram of bytes is the one that is computed.
 abbrev pub DatagramIsComputed : Type 0
 DatagramIsComputed = (x : Datagram) (b : List ℕ) → IsDatagram x b → (is_well_formed b ≡ true) × (x ≡ datagram_of b)
 
+-- What is read as a well-formed datagram is the datagram that is computed.
 abbrev pub WellFormedIsDatagram : Type 0
 WellFormedIsDatagram = (b : List ℕ) → IsBytes b → is_well_formed b ≡ true → IsDatagram (datagram_of b) b
 
--- what thinning keeps is what serves the receiver
+-- What thinning keeps is what serves the receiver.
 abbrev pub KeptIsWithin : Type 0
 KeptIsWithin = (limit : ℕ) (b : List ℕ) → IsBytes b → (is_kept limit b ≡ true) ↔ IsKept limit b

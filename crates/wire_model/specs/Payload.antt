@@ -8,7 +8,7 @@ pub record MainFields : Type 0 where
   pub eseq : ℕ
   pub xtrac : ℕ
 
--- the values of a Body header that are read: RES, ESEQ, ORDB, POS and PID
+-- The values of a Body header that are read: RES, ESEQ, ORDB, POS and PID.
 pub record BodyFields : Type 0 where
   pub res : ℕ
   pub eseq : ℕ
@@ -16,6 +16,7 @@ pub record BodyFields : Type 0 where
   pub pos : ℕ
   pub pid : ℕ
 
+-- The values of a payload header of either kind.
 pub data PayloadFields : Type 0 where
   Main : MainFields → PayloadFields
   Body : BodyFields → PayloadFields
@@ -71,26 +72,27 @@ pub record IsBody (h : BodyFields) (codestream bytes : List ℕ) : Type 0 where
       ∷ codestream
   pub marked : h.ordb ≡ true → h.pos < length codestream
 
--- a payload of either kind
+-- The bytes are a payload of either kind.
 abbrev pub IsPayload : PayloadFields → List ℕ → List ℕ → Type 0
 IsPayload (Main h) codestream bytes = IsMain h codestream bytes
 IsPayload (Body h) codestream bytes = IsBody h codestream bytes
 
--- XTRAC and POS, where a header has them
+-- XTRAC, where a Main header has it.
 abbrev pub xtrac_at : List ℕ → ℕ
 xtrac_at b = slice_index b 1 / 16 % 8
 
+-- POS, where a Body header has it.
 abbrev pub pos_at : List ℕ → ℕ
 pos_at b = slice_index b 4 * 16 + slice_index b 5 / 16
 
--- why bytes aren't a payload: fewer than eight bytes,
+-- The bytes are no payload, as they are fewer than eight.
 abbrev pub IsShortOfPayload : List ℕ → Type 0
 IsShortOfPayload b = length b < 8
 
--- a Main whose skipped bytes pass the end,
+-- The bytes are no payload, as they begin a Main whose skipped bytes pass the end.
 abbrev pub IsPastExtension : List ℕ → Type 0
 IsPastExtension b = (8 ≤ length b) × (64 ≤ slice_index b 0) × (length b < 8 + 4 * xtrac_at b)
 
--- or a Body with ORDB = 1 whose POS isn't below the number of codestream bytes
+-- The bytes are no payload, as they begin a Body with ORDB = 1 whose POS isn't below the number of codestream bytes.
 abbrev pub IsPastPos : List ℕ → Type 0
 IsPastPos b = (8 ≤ length b) × (slice_index b 0 < 64) × (128 ≤ slice_index b 1) × (length b - 8 ≤ pos_at b)

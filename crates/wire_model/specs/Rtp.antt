@@ -2,7 +2,7 @@
 use Rattle.std.specs.Prelude.{◌≡◌, ◌≢◌, ◌<◌, ◌≤◌, ◌+◌, ◌-◌, ◌*◌, ◌/◌, ◌%◌, ◌^◌, ◌⊎◌, ◌==◌, ℕ, Bool, true, false, List, [], ◌∷◌, ◌++◌, length, slice_index, if◌then◌else◌}
 use Rattle.wire_model.specs.Bytes.{bit, two_bytes, four_bytes, two_at}
 
--- the values that are read: M, PT, the sequence number, the timestamp and SSRC
+-- The values that are read: M, PT, the sequence number, the timestamp and SSRC.
 pub record RtpFields : Type 0 where
   pub marker : Bool
   pub kind : ℕ
@@ -10,20 +10,21 @@ pub record RtpFields : Type 0 where
   pub stamp : ℕ
   pub source : ℕ
 
--- each value fits its field
+-- Each value fits its field.
 pub record FitRtp (h : RtpFields) : Type 0 where
   pub kind : h.kind < 2 ^ 7
   pub number : h.number < 2 ^ 16
   pub stamp : h.stamp < 2 ^ 32
   pub source : h.source < 2 ^ 32
 
--- the twelve fixed bytes: V = 2, P, X, CC, M, PT, and the three numbers
+-- The twelve fixed bytes: V = 2, P, X, CC, M, PT, and the three numbers.
 abbrev pub fixed_header : RtpFields → Bool → Bool → ℕ → List ℕ
 fixed_header h padded extended sources =
     (128 + bit padded * 32 + bit extended * 16 + sources) ∷ (bit h.marker * 128 + h.kind) ∷ []
     ++ two_bytes h.number ++ four_bytes h.stamp ++ four_bytes h.source
 
--- with X = 1: 16 bits of the profile's own, the number of 32-bit words in 16 bits, and these words
+-- The header extension, with X = 1: 16 bits of the profile's own, the number of 32-bit words in 16 bits, and these
+-- words.
 abbrev pub IsExtension : Bool → List ℕ → Type 0
 IsExtension false extension = extension ≡ []
 IsExtension true extension =
@@ -31,12 +32,12 @@ IsExtension true extension =
     × (length profile ≡ 2) × (length words ≡ 4 * (high * 256 + low))
     × (extension ≡ profile ++ high ∷ low ∷ words)
 
--- with P = 1: at least one byte, the last of which is their number
+-- The padding, with P = 1: at least one byte, the last of which is the number of them all.
 abbrev pub IsPadding : Bool → List ℕ → Type 0
 IsPadding false padding = padding ≡ []
 IsPadding true padding = (front : List ℕ) × (padding ≡ front ++ (length front + 1) ∷ [])
 
--- the bytes are an RTP datagram: this header with these values, this payload, and padding
+-- The bytes are an RTP datagram: this header with these values, this payload, and padding.
 pub record IsRtp (h : RtpFields) (header payload bytes : List ℕ) : Type 0 where
   pub padded : Bool
   pub extended : Bool
@@ -52,31 +53,32 @@ pub record IsRtp (h : RtpFields) (header payload bytes : List ℕ) : Type 0 wher
   pub is_header : header ≡ fixed_header h padded extended sources ++ (csrc ++ extension)
   pub whole : bytes ≡ header ++ (payload ++ padding)
 
--- V, the version
+-- V, the version.
 abbrev pub version : List ℕ → ℕ
 version b = slice_index b 0 / 64
 
--- where the CSRC list ends, by CC
+-- The offset at which the CSRC list ends, by CC.
 abbrev pub csrc_end : List ℕ → ℕ
 csrc_end b = 12 + 4 * (slice_index b 0 % 16)
 
--- the header's length, as CC and X and the extension's own length say; it may pass the end of the bytes
+-- The header's length, as CC and X and the extension's own length say; it may pass the end of the bytes.
 abbrev pub header_length : List ℕ → ℕ
 header_length b = if slice_index b 0 / 16 % 2 == 0 then csrc_end b else csrc_end b + 4 + 4 * two_at b (csrc_end b + 2)
 
--- the last byte, which counts the padding where P is 1
+-- The last byte, which counts the padding where P is 1.
 abbrev pub last_byte : List ℕ → ℕ
 last_byte b = slice_index b (length b - 1)
 
--- why bytes aren't an RTP datagram, in the order in which it is judged: fewer than twelve bytes,
+-- The bytes are no RTP datagram, as there are fewer than twelve, or fewer than the header has.
 abbrev pub IsShortOfRtp : List ℕ → Type 0
 IsShortOfRtp b = (length b < 12) ⊎ ((12 ≤ length b) × (version b ≡ 2) × (length b < header_length b))
 
--- another version,
+-- The bytes are no RTP datagram of version 2.
 abbrev pub IsOtherVersion : List ℕ → Type 0
 IsOtherVersion b = (12 ≤ length b) × (version b ≢ 2)
 
--- and, where the whole header is there, padding of no byte or of more than follow the header
+-- The bytes are no RTP datagram, as the whole header is there, but its padding is no byte, or more than follow the
+-- header.
 abbrev pub IsBadlyPadded : List ℕ → Type 0
 IsBadlyPadded b =
     (12 ≤ length b) × (version b ≡ 2) × (header_length b ≤ length b)

@@ -3,7 +3,7 @@ use Rattle.std.specs.Prelude.{◌-◌, ◌/◌, ◌%◌, ◌==◌, ◌&&◌, ℕ
 use Rattle.wire_model.specs.Bytes.{two_at, four_at}
 use Rattle.wire_model.specs.Rtp.{RtpFields, version, header_length, last_byte}
 
--- the values at their places
+-- The values of an RTP header, each read at its offset.
 abbrev pub rtp_fields : List ℕ → RtpFields
 rtp_fields b = record {
   marker = nat_le 128 (slice_index b 1);
@@ -13,18 +13,18 @@ rtp_fields b = record {
   source = four_at b 8;
 }
 
--- P
+-- P, whether there is padding.
 abbrev pub is_padded : List ℕ → Bool
 is_padded b = slice_index b 0 / 32 % 2 == 1
 
--- the padding is there, where it is said to be
+-- The padding is there, where P says that it is.
 abbrev pub is_padding_sound : List ℕ → Bool
 is_padding_sound b = if is_padded b then nat_le 1 (last_byte b) && nat_le (last_byte b) (length b - header_length b) else true
 
--- an RTP datagram
+-- The bytes are an RTP datagram.
 abbrev pub is_rtp : List ℕ → Bool
 is_rtp b = nat_le 12 (length b) && (version b == 2) && nat_le (header_length b) (length b) && is_padding_sound b
 
--- where the payload ends
+-- The offset at which the payload ends.
 abbrev pub payload_end : List ℕ → ℕ
 payload_end b = if is_padded b then length b - last_byte b else length b

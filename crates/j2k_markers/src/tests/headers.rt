@@ -1,6 +1,6 @@
 //! Main headers: two of one pixel or three, and four that encoders wrote.
 
-/// An image of 1 x 1, one component, no decomposition: 89 bytes. CAP stands at 45, COD at 55, QCD at 69,
+/// An image of 1 x 1, one component, no decomposition: 89 bytes. CAP is at 45, COD at 55, QCD at 69,
 /// SOT at 75 and SOD at 87.
 pub(super) const ONE_PIXEL: [u8; 89] = [
     0xFF, 0x4F, 0xFF, 0x51, 0x00, 0x29, 0x40, 0x00, 0x00, 0x00, 0x00, 0x01, 0x00, 0x00, 0x00, 0x01,

@@ -20,7 +20,7 @@ fn changed_twice(
     changed(alloc, &changed_behind, low)
 }
 
-/// Counts the faults that can stand beside this one and leave its refusal the answer; none where one doesn't.
+/// Counts the faults that can be beside this one and leave its refusal the answer; none where one doesn't.
 fn kept_beside(
     alloc: Global,
     header: &[u8],
@@ -58,7 +58,7 @@ fn pairs_kept(
 
 #[test]
 fn of_two_faults_in_siz_the_first_is_the_answer(rt: HostRuntime) -> Result<(), AllocError> {
-    // the pixel stands at y = 1, so that a step of 2 leaves its component empty
+    // the pixel is at y = 1, so that a step of 2 leaves its component empty
     let lower = taken(
         12,
         32,
@@ -156,7 +156,7 @@ fn of_two_faults_at_sot_the_first_is_the_answer(rt: HostRuntime) -> Result<(), A
     Ok(())
 }
 
-/// Bytes of the header of one pixel up to a place, others behind them, and the refusal.
+/// Bytes of the header of one pixel up to a place, others after them, and the refusal.
 type Ending = (usize, &'static [u8], u32, HeadWhy);
 
 #[test]

@@ -117,6 +117,50 @@ fn headers_are_read_in_any_pieces(rt: HostRuntime) -> Result<(), AllocError> {
 }
 
 #[test]
+fn long_values_are_cut_at_each_byte(rt: HostRuntime) -> Result<(), AllocError> {
+    let cases = [
+        of_one(
+            &[0xC0, 0, 0, 0, 0, 0, 0, 0, 0, 0x08, 0x80],
+            HeaderOut::Done(11),
+            &[block!(0, 0, 0, 74, 1, 2, 0)],
+        ),
+        of_one(
+            &[0xEF, 0xFF, 0x7F, 0xC0, 0x00, 0x00, 0x40],
+            HeaderOut::Done(7),
+            &[block!(0, 0, 0, 0, 1, 2, 0)],
+        ),
+        of_one(
+            &[0xEF, 0xFF, 0x5F, 0xFF, 0x60],
+            HeaderOut::Done(5),
+            &[block!(0, 0, 0, 0, 1, 65_534, 0)],
+        ),
+        of_one(
+            &[0xF9, 0xFC, 0x01, 0x7F, 0xE0],
+            HeaderOut::Done(5),
+            &[block!(0, 0, 0, 0, 3, 2, 2_046)],
+        ),
+        Case {
+            cols: 5,
+            rows: 3,
+            bytes: &[
+                0xFE, 0x37, 0x50, 0xAE, 0xF4, 0x61, 0x38, 0x20, 0xF9, 0xF6, 0x44, 0xB2, 0x8C, 0x5E,
+                0xDF, 0x00,
+            ],
+            out: HeaderOut::Done(16),
+            blocks: &[
+                block!(0, 0, 0, 3, 1, 40, 0),
+                block!(0, 3, 0, 1, 2, 70, 9),
+                block!(0, 4, 1, 5, 3, 200, 300),
+                block!(0, 1, 2, 3, 1, 2, 0),
+                block!(0, 2, 2, 0, 1, 31, 0),
+            ],
+        },
+    ];
+    assert_eq!(rt; first_other_in_pieces(rt.alloc(), &cases, false)?, None);
+    Ok(())
+}
+
+#[test]
 fn headers_are_refused_in_any_pieces(rt: HostRuntime) -> Result<(), AllocError> {
     let cases = [
         refused(&[0xEF, 0xFF, 0x80], HeaderWhy::Stuffed),
@@ -188,6 +232,15 @@ fn feed_front(
 fn the_longest_headers_are_read_in_pieces(rt: HostRuntime) -> Result<(), PutFault> {
     let bands = lowest(256, 256);
     let mut buf = long_buffer(rt.alloc())?;
+    assert_eq!(rt; write_many(rt.alloc(), 10_744, false, &mut buf), Ok(65_535));
+    assert_eq!(rt;
+        feed_front(rt.alloc(), &bands, false, &buf, 70_000)?,
+        HeaderOut::Done(65_535)
+    );
+    assert_eq!(rt;
+        feed_front(rt.alloc(), &bands, false, &buf, 65_534)?,
+        HeaderOut::Need
+    );
     assert_eq!(rt; write_many(rt.alloc(), 10_748, false, &mut buf), Ok(65_536));
     assert_eq!(rt;
         feed_front(rt.alloc(), &bands, false, &buf, 70_000)?,

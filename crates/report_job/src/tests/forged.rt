@@ -2,7 +2,7 @@
 //! receiver give, worked out by hand.
 //!
 //! A capture is written as its frames. A frame is the index of a packet of the codestreams as they
-//! were sent, behind `n` where it has the next number, or the parts of a datagram, with `,` between
+//! were sent, after `n` where it has the next number, or the parts of a datagram, with `,` between
 //! them; `@` and a place change the byte there. The first codestream has three precincts with the PIDs
 //! 0, 1 and 2. Each packet is EF64 and 100 bytes of 11, 22 or 33, so that the packets start at 0, 102
 //! and 204, and EOC at 306. The Body packets 1 to 4 have the bytes from 0, 90, 180 and 270 on, the
@@ -15,7 +15,7 @@ use super::*;
 
 /// A case: the window, the frames, the precincts that are wanted, and the six counts of the END line.
 /// A precinct is its PID; with `-` where it has no code-block, with `/` and a PID where it has the one
-/// that was sent for that PID, and behind `3600:` where that is its stamp.
+/// that was sent for that PID, and after `3600:` where that is its stamp.
 type Case = (u16, &'static str, &'static str, [u8; 6]);
 
 /// The precincts as they were sent.
@@ -103,7 +103,7 @@ const WINDOW_EDGES: [Case; 10] = [
     // 2 is 1 ahead of 1: past a window of 1
     (1, "0 2 1 3 4", "1 2", [4, 1, 0, 0, 0, 0]),
     // 5 is 4 ahead of 1: inside a window of 5, and past one of 4, where 1 is given up and what is held
-    // behind it is given without a gap
+    // after it is given without a gap
     (5, "0 2 3 4 r5,07,00*7 1", ALL, [6, 0, 0, 0, 0, 0]),
     (4, "0 2 3 4 r5,07,00*7 1", "1 2", [5, 1, 0, 0, 0, 0]),
     // a repeat is old, both where the first is still held and where it was passed
@@ -111,7 +111,7 @@ const WINDOW_EDGES: [Case; 10] = [
     (16, "0 1 1 2 3 4", ALL, [5, 1, 0, 0, 0, 0]),
     // what is below the first arrival is old, here the Main
     (16, "1 0 2 3 4", "", [4, 1, 0, 0, 0, 0]),
-    // 2^23 + 4 is 2^23 - 1 ahead of 5; 2^23 + 5 is half of all numbers ahead, which is behind
+    // 2^23 + 4 is 2^23 - 1 ahead of 5; 2^23 + 5 is half of all numbers ahead, which is after
     (16, "0 1 2 3 4 r4,07,00*7@15=80", ALL, [6, 0, 0, 0, 0, 0]),
     (16, "0 1 2 3 4 r5,07,00*7@15=80", ALL, [5, 1, 0, 0, 0, 0]),
 ];
@@ -130,7 +130,7 @@ const SOURCES: [Case; 2] = [
 ];
 
 /// Two Mains of one stamp, Mains that aren't exactly one accepted header, and a Main without the Body
-/// behind it.
+/// after it.
 const MAINS: [Case; 7] = [
     // the second begins anew at the first precinct, which is written again
     (
@@ -159,7 +159,7 @@ const MAINS: [Case; 7] = [
     (16, "r0,C4,00*7,t89 1 2 3 4", "", [5, 0, 0, 1, 0, 0]),
     (16, "r0,C4,00*7,t90,00 1 2 3 4", "", [5, 0, 0, 1, 0, 0]),
     (16, "0@80=04 1 2 3 4", "", [5, 0, 0, 1, 0, 0]),
-    // number 1 is missing, so that the Main's run ends, and the Body behind the gap has no mark
+    // number 1 is missing, so that the Main's run ends, and the Body after the gap has no mark
     (16, "0 r2,07,00*7,EF64,11*100", "", [2, 0, 0, 0, 0, 0]),
 ];
 
@@ -200,11 +200,11 @@ const STAMPS: [Case; 4] = [
 
 /// Marks at wrong places and with wrong PIDs in packet 2, whose right one is PID 1 at 12, and elsewhere.
 const MARKS: [Case; 17] = [
-    // 13: the packet of PID 0 ends before it. The one behind isn't whole by then, so that a run begins at
+    // 13: the packet of PID 0 ends before it. The one after isn't whole by then, so that a run begins at
     // 13, where 64 and 22 are the empty packets of PID 1 and 2, which end it; packet 3's mark begins one
     (16, "0 1 2@17=D0 3 4", "0 1- 2- 2", [5, 0, 0, 0, 1, 0]),
     // 11: the packet of PID 0 ends past it, so it isn't given. At 11 there is an empty packet of PID 1, and
-    // that of the second precinct behind it is read as PID 2
+    // that of the second precinct after it is read as PID 2
     (16, "0 1 2@17=B0 3 4", "1- 2/1 2", [5, 0, 0, 0, 1, 0]),
     // 0: it ends past it as well
     (16, "0 1 2@17=00 3 4", "1- 2- 2", [5, 0, 0, 0, 1, 0]),
@@ -228,7 +228,7 @@ const MARKS: [Case; 17] = [
     ),
     // a Body without codestream bytes is no gap
     (16, "0 1 r2,07,00*7 n2 n3 n4", ALL, [6, 0, 0, 0, 0, 0]),
-    // a mark behind the last precinct begins a run, with which nothing disagrees
+    // a mark after the last precinct begins a run, with which nothing disagrees
     (
         16,
         "0 r1,0780000000500001,000000FFD90000",
@@ -251,7 +251,7 @@ const MARKS: [Case; 17] = [
     ),
     // it isn't whole, and at the mark at 1 the packet 80 has no code-block
     (16, "0 r1,0780000000100001,C880", "1-", [2, 0, 0, 0, 1, 0]),
-    // a byte behind FF has its top bit set: that these are no packet counts before the mark at 1 does, and
+    // a byte after FF has its top bit set: that these are no packet counts before the mark at 1 does, and
     // there FF begins with a wrong code of passes
     (
         16,
@@ -268,12 +268,12 @@ const MARKS: [Case; 17] = [
     ),
 ];
 
-/// Bytes behind the Main that can't be a packet, each beside the nearest that may become one.
+/// Bytes after the Main that can't be a packet, each beside the nearest that may become one.
 const PACKETS: [Case; 14] = [
     // passes 1101, and 1100
     (16, "0 r1,07,00*7,FA", "", [2, 0, 0, 0, 0, 1]),
     (16, "0 r1,07,00*7,F9", "", [2, 0, 0, 0, 0, 0]),
-    // behind FF a byte with its top bit set, and without it
+    // after FF a byte with its top bit set, and without it
     (16, "0 r1,07,00*7,EFFF80", "", [2, 0, 0, 0, 0, 1]),
     (16, "0 r1,07,00*7,EFFF00", "", [2, 0, 0, 0, 0, 0]),
     // the 75th zero before the one of the missing bit-planes, and the 70th
@@ -321,7 +321,7 @@ const RUNS: [Case; 5] = [
     ),
 ];
 
-/// Appends bytes in hexadecimal digits, as often as the number behind `*` says.
+/// Appends bytes in hexadecimal digits, as often as the number after `*` says.
 fn push_hex(datagram: &mut Vec<u8>, text: &str) -> Result<(), Fail> {
     let (digits, times) = text.split_once('*').unwrap_or((text, "1"));
     for _ in 0..times.parse::<u16>()? {
@@ -335,8 +335,8 @@ fn push_hex(datagram: &mut Vec<u8>, text: &str) -> Result<(), Fail> {
     Ok(())
 }
 
-/// Appends a part of a datagram: RTP's header with the number behind `r`, so many bytes of the main
-/// header of three samples as stand behind `t`, `o` for that of one sample, or bytes.
+/// Appends a part of a datagram: RTP's header with the number after `r`, n bytes of the main
+/// header of three samples as are after `t`, `o` for that of one sample, or bytes.
 fn push_part(datagram: &mut Vec<u8>, part: &str) -> Result<(), Fail> {
     if let Some(number) = part.strip_prefix('r') {
         let number: u8 = number.parse()?;

@@ -16,7 +16,7 @@ returns-in_err-put t c =
     let more = number_bits (c.args.width - 1) c.args.number in
     puts_same (Unit {0}) (first ++ more) (number_bits c.args.width c.args.number) c.args.bits.now c.put.new.self c.args.buf.now c.put.new.buf c.from_residual.result (sym (number_by_bit c.args.width c.args.number c.if-width-eq0.false))
     (puts_no_more (Unit {0}) (Unit {0}) first more c.args.bits.now c.put.new.self c.args.buf.now c.put.new.buf c.in_err-put.field-0.0 c.from_residual.result c.from_residual.ensures.0
-    (record { writes = record { full = none.full; stands = none.stands }; goes = record { onward = none.onward; within = none.within; behind = none.behind } }))
+    (record { writes = record { full = none.full; holds = none.writes }; goes = record { onward = none.onward; within = none.within; beyond = none.beyond } }))
 
 pub returns : goal.returns
 returns t c =
@@ -25,4 +25,4 @@ returns t c =
     let more = number_bits (c.args.width - 1) c.args.number in
     puts_same (Unit {0}) (first ++ more) (number_bits c.args.width c.args.number) c.args.bits.now c.put_number.new.bits c.args.buf.now c.put_number.new.buf c.put_number.result (sym (number_by_bit c.args.width c.args.number c.if-width-eq0.false))
     (puts_behind (Unit {0}) (Unit {0}) first more c.args.bits.now c.put.new.self c.put_number.new.bits c.args.buf.now c.put.new.buf c.put_number.new.buf c.in_ok-put.field-0 c.put_number.result c.put.auto.buf
-    (record { writes = record { full = one.full; stands = one.stands }; goes = record { onward = one.onward; within = one.within; behind = one.behind } }) c.put_number.ensures)
+    (record { writes = record { full = one.full; holds = one.writes }; goes = record { onward = one.onward; within = one.within; beyond = one.beyond } }) c.put_number.ensures)

@@ -10,7 +10,7 @@ returns-in_err-put t c =
     let more = run_of true (c.args.ones - 1) false in
     puts_same (Unit {0}) ((true ∷ []) ++ more) (run_of true c.args.ones false) c.args.bits.now c.put-2.new.self c.args.buf.now c.put-2.new.buf c.from_residual.result (sym (one_more c.args.ones c.if-ones-eq0.false))
     (puts_no_more (Unit {0}) (Unit {0}) (true ∷ []) more c.args.bits.now c.put-2.new.self c.args.buf.now c.put-2.new.buf c.in_err-put.field-0.0 c.from_residual.result c.from_residual.ensures.0
-    (record { writes = record { full = none.full; stands = none.stands }; goes = record { onward = none.onward; within = none.within; behind = none.behind } }))
+    (record { writes = record { full = none.full; holds = none.writes }; goes = record { onward = none.onward; within = none.within; beyond = none.beyond } }))
 
 pub returns : goal.returns
 returns t c =
@@ -18,4 +18,4 @@ returns t c =
     let more = run_of true (c.args.ones - 1) false in
     puts_same (Unit {0}) ((true ∷ []) ++ more) (run_of true c.args.ones false) c.args.bits.now c.put_ones.new.bits c.args.buf.now c.put_ones.new.buf c.put_ones.result (sym (one_more c.args.ones c.if-ones-eq0.false))
     (puts_behind (Unit {0}) (Unit {0}) (true ∷ []) more c.args.bits.now c.put-2.new.self c.put_ones.new.bits c.args.buf.now c.put-2.new.buf c.put_ones.new.buf c.in_ok-put.field-0 c.put_ones.result c.put-2.auto.buf
-    (record { writes = record { full = one.full; stands = one.stands }; goes = record { onward = one.onward; within = one.within; behind = one.behind } }) c.put_ones.ensures)
+    (record { writes = record { full = one.full; holds = one.writes }; goes = record { onward = one.onward; within = one.within; beyond = one.beyond } }) c.put_ones.ensures)

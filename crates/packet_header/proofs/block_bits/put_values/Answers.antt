@@ -1,4 +1,4 @@
--- One value behind another.
+-- One value after another.
 use Rattle.std.proofs.Common.{◌-◌, ◌++◌, ℕ, true, false, ap}
 use Rattle.codestream_model.specs.StuffedBits.{number_bits}
 use Rattle.codestream_model.specs.HeaderPieces.{passes_code, run_of}

@@ -2,7 +2,7 @@
 use Rattle.std.proofs.Common.{map, take}
 use Rattle.precinct_geometry.specs.Spans.{grid_of}
 use Rattle.packet_header.specs.Answers.{block_of}
-use Rattle.packet_header.specs.SeatsWritten.{LaysOut}
+use Rattle.packet_header.specs.PositionsWritten.{LaysOut}
 use Rattle.packet_header.proofs.filling.leaves_of.Given as goal
 
 abbrev pub invariant-loop-block : goal.invariant-loop-block

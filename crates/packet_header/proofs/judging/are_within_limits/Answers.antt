@@ -2,7 +2,7 @@
 use Rattle.std.proofs.Common.{rules}
 use Rattle.codestream_model.specs.PacketHeader.{IsWithinLimits}
 use Rattle.packet_header.specs.Answers.{block_of}
-use Rattle.packet_header.proofs.SeatWalks.{each_at}
+use Rattle.packet_header.proofs.PositionWalks.{each_at}
 use Rattle.packet_header.proofs.judging.are_within_limits.Goals as goal
 
 pub returns-then-not-is_within_limits : goal.returns-then-not-is_within_limits

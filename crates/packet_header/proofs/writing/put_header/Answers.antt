@@ -15,7 +15,7 @@ returns-in_err-put-2-clause-bits c =
     fills_same ((true ∷ []) ++ grids_bits gs blocks) (written_bits gs blocks) c.args.bits.now c.put-2.new.self c.args.buf.now c.put-2.new.buf c.from_residual-in_err-put-2.result
     (bits_of_some gs blocks (some_left block_of c.args.blocks.now c.if-is_empty.ensures))
     (fills_more (true ∷ []) (grids_bits gs blocks) c.args.bits.now c.put-2.new.self c.args.buf.now c.put-2.new.buf c.from_residual-in_err-put-2.result c.from_residual-in_err-put-2.ensures.0
-    (fills_full (true ∷ []) c.args.bits.now c.put-2.new.self c.args.buf.now c.put-2.new.buf c.in_err-put-2.field-0.0 c.from_residual-in_err-put-2.result c.from_residual-in_err-put-2.ensures.0 (record { full = none.full; stands = none.stands })))
+    (fills_full (true ∷ []) c.args.bits.now c.put-2.new.self c.args.buf.now c.put-2.new.buf c.in_err-put-2.field-0.0 c.from_residual-in_err-put-2.result c.from_residual-in_err-put-2.ensures.0 (record { full = none.full; holds = none.writes })))
 
 pub returns-clause-bits : goal.returns-clause-bits
 returns-clause-bits c =
@@ -25,9 +25,9 @@ returns-clause-bits c =
     fills_same ((true ∷ []) ++ grids_bits gs blocks) (written_bits gs blocks) c.args.bits.now c.put_grids.new.bits c.args.buf.now c.put_grids.new.buf c.put_grids.result
     (bits_of_some gs blocks (some_left block_of c.args.blocks.now c.if-is_empty.ensures))
     (fills_behind (true ∷ []) (grids_bits gs blocks) c.args.bits.now c.put-2.new.self c.put_grids.new.bits c.args.buf.now c.put-2.new.buf c.put_grids.new.buf tt c.put_grids.result c.put-2.auto.buf
-    (fills_ok (true ∷ []) c.args.bits.now c.put-2.new.self c.args.buf.now c.put-2.new.buf c.in_ok-put-2.field-0 (record { full = first.full; stands = first.stands })) c.put_grids.ensures.bits)
+    (fills_ok (true ∷ []) c.args.bits.now c.put-2.new.self c.args.buf.now c.put-2.new.buf c.in_ok-put-2.field-0 (record { full = first.full; holds = first.writes })) c.put_grids.ensures.bits)
 
 pub returns-clause-goes : goal.returns-clause-goes
 returns-clause-goes c =
     let one = c.in_ok-put-2.ensures in
-    goes_both c.args.bits.now c.put-2.new.self c.put_grids.new.bits c.args.buf.now c.put-2.new.buf c.put_grids.new.buf (record { onward = one.onward; within = one.within; behind = one.behind }) c.put_grids.ensures.goes
+    goes_both c.args.bits.now c.put-2.new.self c.put_grids.new.bits c.args.buf.now c.put-2.new.buf c.put_grids.new.buf (record { onward = one.onward; within = one.within; beyond = one.beyond }) c.put_grids.ensures.goes

@@ -18,13 +18,13 @@ returns-in_err-put_header-clause-full c = λ f.
     let why : c.in_err-put_header.field-0.0 ≡ fault.Full = sym p.2 ∙ same_fault p.0 fault.Full same in
     let P : List Grid → Type 0 = λ l. length c.args.buf.now < length (written_header (map grid_of l) blocks) in
     subst P c.as_slice-grids.ensures.value
-    (header_full (map grid_of c.as_slice-grids.result.now) blocks c.new-bits.result c.put_header.new.bits c.args.buf.now c.put_header.new.buf c.in_err-put_header.field-0.0 c.new-bits.ensures.stands c.in_err-put_header.ensures.bits why)
+    (header_full (map grid_of c.as_slice-grids.result.now) blocks c.new-bits.result c.put_header.new.bits c.args.buf.now c.put_header.new.buf c.in_err-put_header.field-0.0 c.new-bits.ensures.none c.in_err-put_header.ensures.bits why)
 
 pub returns-in_err-finish-clause-full : goal.returns-in_err-finish-clause-full
 returns-in_err-finish-clause-full c = λ f.
     let blocks = map block_of c.args.blocks.now in
     let gs = map grid_of c.as_slice-grids.result.now in
-    let r = header_stands gs blocks c.new-bits.result c.put_header.new.bits c.args.buf.now c.put_header.new.buf c.in_ok-put_header.field-0 c.new-bits.ensures.stands c.in_ok-put_header.ensures.bits in
+    let r = header_stands gs blocks c.new-bits.result c.put_header.new.bits c.args.buf.now c.put_header.new.buf c.in_ok-put_header.field-0 c.new-bits.ensures.none c.in_ok-put_header.ensures.bits in
     let far : length c.put_header.new.buf < length (packing (written_bits gs blocks)) = (c.in_err-finish.ensures.full (written_bits gs blocks) r).0 refl in
     let P : ℕ → Type 0 = λ n. n < length (written_header gs blocks) in
     let Q : List Grid → Type 0 = λ l. length c.args.buf.now < length (written_header (map grid_of l) blocks) in
@@ -35,26 +35,26 @@ returns-clause-written c =
     let blocks = map block_of c.args.blocks.now in
     let gs = map grid_of c.as_slice-grids.result.now in
     let n = c.in_ok-finish.field-0 in
-    let r = header_stands gs blocks c.new-bits.result c.put_header.new.bits c.args.buf.now c.put_header.new.buf c.in_ok-put_header.field-0 c.new-bits.ensures.stands c.in_ok-put_header.ensures.bits in
+    let r = header_stands gs blocks c.new-bits.result c.put_header.new.bits c.args.buf.now c.put_header.new.buf c.in_ok-put_header.field-0 c.new-bits.ensures.none c.in_ok-put_header.ensures.bits in
     let e = c.in_ok-finish.ensures.packed (written_bits gs blocks) r in
     let P : List Grid → Type 0 = λ l. (n ≡ length (written_header (map grid_of l) blocks)) × (take n c.finish.new.buf ≡ written_header (map grid_of l) blocks) in
     subst P c.as_slice-grids.ensures.value (header_size n c.finish.new.buf (written_header gs blocks) e c.in_ok-finish.ensures.within, e)
 
-pub returns-clause-behind : goal.returns-clause-behind
-returns-clause-behind c =
+pub returns-clause-beyond : goal.returns-clause-beyond
+returns-clause-beyond c =
     let blocks = map block_of c.args.blocks.now in
     let gs = map grid_of c.as_slice-grids.result.now in
     let n = c.in_ok-finish.field-0 in
-    let r = header_stands gs blocks c.new-bits.result c.put_header.new.bits c.args.buf.now c.put_header.new.buf c.in_ok-put_header.field-0 c.new-bits.ensures.stands c.in_ok-put_header.ensures.bits in
+    let r = header_stands gs blocks c.new-bits.result c.put_header.new.bits c.args.buf.now c.put_header.new.buf c.in_ok-put_header.field-0 c.new-bits.ensures.none c.in_ok-put_header.ensures.bits in
     header_behind (written_bits gs blocks) c.args.buf.now c.put_header.new.buf c.finish.new.buf c.put_header.new.bits n c.in_ok-put_header.ensures.begun r (c.in_ok-finish.ensures.packed (written_bits gs blocks) r) c.in_ok-finish.ensures.within
-    c.put_header.ensures.goes.behind c.in_ok-finish.ensures.behind
+    c.put_header.ensures.goes.beyond c.in_ok-finish.ensures.beyond
 
 pub returns-clause-says : goal.returns-clause-says
 returns-clause-says c = λ short.
     let blocks = map block_of c.args.blocks.now in
     let gs = map grid_of c.as_slice-grids.result.now in
     let n = c.in_ok-finish.field-0 in
-    let r = header_stands gs blocks c.new-bits.result c.put_header.new.bits c.args.buf.now c.put_header.new.buf c.in_ok-put_header.field-0 c.new-bits.ensures.stands c.in_ok-put_header.ensures.bits in
+    let r = header_stands gs blocks c.new-bits.result c.put_header.new.bits c.args.buf.now c.put_header.new.buf c.in_ok-put_header.field-0 c.new-bits.ensures.none c.in_ok-put_header.ensures.bits in
     let e = c.in_ok-finish.ensures.packed (written_bits gs blocks) r in
     let H : List Grid → Type 0 = λ l. HaveOwnBands (map grid_of l) in
     let bands = subst H (sym c.as_slice-grids.ensures.value) c.requires.own_bands in

@@ -7,7 +7,7 @@ use Rattle.tag_tree.proofs.writing.+put_value.Goals as goal
 pub returns-then-label-above-clause-bits : goal.returns-then-label-above-clause-bits
 returns-then-label-above-clause-bits t c =
     let P : List Bool → Type 0 = λ l. Writes {A = Unit {0}} l c.args.bits.now c.put.new.self c.args.buf.now c.put.new.buf c.put.result in
-    subst P (sym (no_zeros c.args.above c.args.label c.if-label-above.true)) (record { full = c.put.ensures.full; stands = c.put.ensures.stands })
+    subst P (sym (no_zeros c.args.above c.args.label c.if-label-above.true)) (record { full = c.put.ensures.full; holds = c.put.ensures.writes })
 
 pub returns-in_err-put-clause-bits : goal.returns-in_err-put-clause-bits
 returns-in_err-put-clause-bits t c =
@@ -16,7 +16,7 @@ returns-in_err-put-clause-bits t c =
     let above : c.args.above < c.args.label = omega arith in
     subst P (sym (one_zero c.args.above c.args.label above))
     (writes_no_more (Unit {0}) (Unit {0}) (false ∷ []) (value_step (c.args.above + 1) c.args.label) c.args.bits.now c.put-2.new.self c.args.buf.now c.put-2.new.buf c.in_err-put.field-0.0 c.from_residual.result c.from_residual.ensures.0
-    (record { full = none.full; stands = none.stands }))
+    (record { full = none.full; holds = none.writes }))
 
 pub returns-clause-bits : goal.returns-clause-bits
 returns-clause-bits t c =
@@ -25,7 +25,7 @@ returns-clause-bits t c =
     let above : c.args.above < c.args.label = omega arith in
     subst P (sym (one_zero c.args.above c.args.label above))
     (writes_behind (Unit {0}) (Unit {0}) (false ∷ []) (value_step (c.args.above + 1) c.args.label) c.args.bits.now c.put-2.new.self c.put_value.new.bits c.args.buf.now c.put-2.new.buf c.put_value.new.buf c.in_ok-put.field-0 c.put_value.result c.put-2.auto.buf
-    (record { full = one.full; stands = one.stands }) c.put_value.ensures.bits)
+    (record { full = one.full; holds = one.writes }) c.put_value.ensures.bits)
 
-pub returns-clause-behind : goal.returns-clause-behind
-returns-clause-behind t c = behind_both c.args.buf.now c.put-2.new.buf c.put_value.new.buf c.put-2.new.self.len c.put_value.new.bits.len c.put_value.ensures.onward c.put-2.ensures.behind c.put_value.ensures.behind
+pub returns-clause-beyond : goal.returns-clause-beyond
+returns-clause-beyond t c = behind_both c.args.buf.now c.put-2.new.buf c.put_value.new.buf c.put-2.new.self.len c.put_value.new.bits.len c.put_value.ensures.onward c.put-2.ensures.beyond c.put_value.ensures.beyond

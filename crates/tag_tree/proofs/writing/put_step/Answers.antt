@@ -1,7 +1,7 @@
 -- No bit is written under a label that isn't 0.
 use Rattle.std.proofs.Common.{◌≡◌, [], ◌∙◌, ap}
 use Rattle.tag_tree.specs.LeafWriting.{step_of}
-use Rattle.tag_tree.specs.declared.writing.Kind.{Kind}
+use Rattle.tag_tree.specs.declared.kind.Kind.{Kind}
 use Rattle.tag_tree.proofs.WriteLemmas.{writes_none, step_under_more}
 use Rattle.tag_tree.proofs.writing.put_step.Goals as goal
 

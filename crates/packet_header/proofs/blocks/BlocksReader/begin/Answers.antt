@@ -1,5 +1,5 @@
 -- Nothing was read yet.
-use Rattle.std.proofs.Common.{◌≡◌, ◌≤◌, ◌*◌, ◌+◌, ℕ, Bool, false, List, [], map, refl, sym, ap, subst, arith}
+use Rattle.std.proofs.Common.{false, List, [], map, refl, sym, ap, subst, arith}
 use Rattle.codestream_model.specs.PacketHeaderReading.{read_bits}
 use Rattle.precinct_geometry.specs.Spans.{grid_of}
 use Rattle.precinct_geometry.specs.declared.place.Grid.{Grid}

@@ -1,15 +1,14 @@
 -- The code-blocks of the current grid.
-use Rattle.std.proofs.Common.{◌≡◌, ◌<◌, ◌≤◌, ◌+◌, ℕ, List, length, refl, sym, ◌∙◌, ap, subst, arith}
-use Rattle.codestream_model.specs.TagTrees.{Seat}
+use Rattle.std.proofs.Common.{◌+◌, arith}
 use Rattle.precinct_geometry.specs.Spans.{grid_of}
 use Rattle.packet_header.specs.Blocks.{later_grids, IsInGrid}
 use Rattle.packet_header.specs.declared.blocks.BlocksReader.{BlocksReader}
-use Rattle.packet_header.proofs.SeatRuns.{grid_kept}
-use Rattle.packet_header.proofs.GridMoves.{in_grid, no_seats, grid_took}
+use Rattle.packet_header.proofs.PositionRuns.{grid_kept}
+use Rattle.packet_header.proofs.GridMoves.{in_grid, no_positions, grid_took}
 use Rattle.packet_header.proofs.blocks.BlocksReader.read_grid.Goals as goal
 
 pub returns-then-own-eq0-clause-whole : goal.returns-then-own-eq0-clause-whole
-returns-then-own-eq0-clause-whole c = no_seats (grid_of c.args.own) c.args.self.now.row c.args.self.now.col c.if-own-eq0.true
+returns-then-own-eq0-clause-whole c = no_positions (grid_of c.args.own) c.args.self.now.row c.args.self.now.col c.if-own-eq0.true
 
 pub returns-clause-read : goal.returns-clause-read
 returns-clause-read c = λ first before t.

@@ -1,16 +1,16 @@
 -- The grids, one after another.
-use Rattle.std.proofs.Common.{◌≡◌, ◌<◌, ◌≤◌, ◌+◌, ◌-◌, ◌*◌, ◌++◌, ℕ, Bool, true, List, [], ◌∷◌, map, length, drop, vec_capacity, Option, Some, None, Result, Ok, Err, refl, sym, ◌∙◌, ap, subst, arith}
+use Rattle.std.proofs.Common.{◌≡◌, ◌+◌, ◌++◌, ℕ, Bool, List, ◌∷◌, map, drop, vec_capacity, Result, refl, sym, ◌∙◌, ap, subst}
 use Rattle.std.proofs.lemmas.Result.{err_from_is_err_and}
 use Rattle.codestream_model.specs.Values as values
 use Rattle.codestream_model.specs.StuffedBits.{packed_bits}
 use Rattle.codestream_model.specs.PacketHeaderReading.{Read}
 use Rattle.precinct_geometry.specs.Spans.{grid_of}
 use Rattle.precinct_geometry.specs.declared.place.Grid.{Grid}
-use Rattle.packet_header.specs.Moves.{taken_of, all_of, IsStop}
-use Rattle.packet_header.specs.Blocks.{grids_left, IsCurrent, IsSameRoom, HasTaken, TookPart, later_grids}
+use Rattle.packet_header.specs.Moves.{taken_of, IsStop}
+use Rattle.packet_header.specs.Blocks.{grids_left, IsSameRoom, HasTaken, TookPart, later_grids}
 use Rattle.packet_header.specs.declared.blocks.BlocksReader.{BlocksReader}
-use Rattle.packet_header.specs.declared.refusal.Stop.{Stop}
-use Rattle.packet_header.proofs.GridMoves.{in_grid, grid_entered}
+use Rattle.packet_header.specs.declared.refusal.HeaderStop.{HeaderStop}
+use Rattle.packet_header.proofs.GridMoves.{grid_entered}
 use Rattle.packet_header.proofs.blocks.BlocksReader.read_grids.Goals as goal
 
 -- room that stays twice
@@ -32,7 +32,7 @@ returns-in_err-read_grid-clause-read c = λ first before t.
     let p = err_from_is_err_and c.from_residual.result c.from_residual.ensures.1 in
     let i = c.loop-own.invariant in
     let stopped = c.in_err-read_grid.field-0.0 in
-    let R : Result (Unit {0}) Stop → Type 0 = λ x. TookPart first c.read_grid.new.self before c.loop-own.source c.read_grid.new.source x in
+    let R : Result (Unit {0}) HeaderStop → Type 0 = λ x. TookPart first c.read_grid.new.self before c.loop-own.source c.read_grid.new.source x in
     let q = subst R c.in_err-read_grid.was (c.read_grid.ensures.read first before (i.taken first before t)) in
     let P : List ℕ → Type 0 = λ l. IsStop (first (packed_bits (before ++ l)).bits) (packed_bits (before ++ l)).broken_at stopped in
     rw (p.1, p.2) (subst P i.piece q.0, q.1)
@@ -57,7 +57,7 @@ goes_on c first before m =
     let own = c.in-Some.own in
     let e = c.read_grid.ensures.grid in
     let f = c.read_grid.ensures.same.bands in
-    let R : Result (Unit {0}) Stop → Type 0 = λ x. TookPart first mid before c.loop-own.source new x in
+    let R : Result (Unit {0}) HeaderStop → Type 0 = λ x. TookPart first mid before c.loop-own.source new x in
     let q = subst R c.in_ok-read_grid.was (c.read_grid.ensures.read first before m) in
     let P : BlocksReader → Type 0 = λ x. HasTaken first x (taken_of before new) new.bits in
     subst P (sym c.enter.ensures.place) (grid_entered first (grid_of own) (later_grids (r.grid + 1) r) mid (mid.grid + 1) c.enter.new.self.trees (taken_of before new) new.bits q

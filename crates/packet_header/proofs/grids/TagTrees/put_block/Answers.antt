@@ -25,4 +25,4 @@ returns-clause-bits c = λ labels earlier holds met.
 pub returns-clause-goes : goal.returns-clause-goes
 returns-clause-goes c =
     let one = c.in_ok-write_value.ensures in
-    goes_both c.args.bits.now c.write_value.new.bits c.put_values.new.bits c.args.buf.now c.write_value.new.buf c.put_values.new.buf (record { onward = one.onward; within = one.within; behind = one.behind }) c.put_values.ensures.goes
+    goes_both c.args.bits.now c.write_value.new.bits c.put_values.new.bits c.args.buf.now c.write_value.new.buf c.put_values.new.buf (record { onward = one.onward; within = one.within; beyond = one.beyond }) c.put_values.ensures.goes

@@ -1,19 +1,19 @@
--- The seats before the column are put.
+-- The positions before the column are put.
 use Rattle.std.proofs.Common.{◌≡◌, length, Ok}
 use Rattle.std.specs.List.{AllByRecursion}
 use Rattle.codestream_model.specs.PacketHeader.{IsWithinLimits}
 use Rattle.precinct_geometry.specs.Spans.{grid_of}
-use Rattle.packet_header.specs.Seats.{HasGrid, row_seats}
-use Rattle.packet_header.specs.Queues.{waiting}
+use Rattle.packet_header.specs.Positions.{HasGrid, row_seats}
+use Rattle.packet_header.specs.Queues.{remaining}
 use Rattle.packet_header.specs.Puts.{Onward}
-use Rattle.packet_header.specs.SeatsWritten.{PutsSeats}
+use Rattle.packet_header.specs.PositionsWritten.{PutsPositions}
 use Rattle.packet_header.proofs.grids.TagTrees.put_row.Given as goal
 
 abbrev pub invariant-loop-col : goal.invariant-loop-col
 invariant-loop-col l = record {
-  bits : PutsSeats (grid_of l.grid) (row_seats l.grid.band l.col l.row) l.fn.self l.self (waiting l.fn.queue) (waiting l.queue) l.fn.bits l.bits l.fn.buf l.buf (Ok tt);
+  bits : PutsPositions (grid_of l.grid) (row_seats l.grid.band l.col l.row) l.fn.self l.self (remaining l.fn.queue) (remaining l.queue) l.fn.bits l.bits l.fn.buf l.buf (Ok tt);
   goes : Onward l.fn.bits l.bits l.fn.buf l.buf;
   same : HasGrid l.self l.grid.cols l.grid.rows;
-  limits : AllByRecursion IsWithinLimits (waiting l.queue);
+  limits : AllByRecursion IsWithinLimits (remaining l.queue);
   size : length l.buf ≡ length l.fn.buf;
 }

@@ -1,20 +1,19 @@
--- Seat by seat.
-use Rattle.std.proofs.Common.{◌≡◌, ◌≢◌, ◌<◌, ◌≤◌, ◌+◌, ◌++◌, ℕ, Bool, List, [], ◌∷◌, length, vec_len, vec_capacity, Result, Ok, Err, refl, sym, ◌∙◌, ap, subst, inl, inr, arith}
+-- Seat by position.
+use Rattle.std.proofs.Common.{◌≡◌, ◌≢◌, ◌<◌, ◌+◌, ◌++◌, ℕ, List, ◌∷◌, length, Result, Err, refl, sym, ◌∙◌, ap, subst, inl, inr, arith}
 use Rattle.std.proofs.lemmas.Result.{err_from_is_err_and}
 use Rattle.std.proofs.lemmas.Bool.Decides.{eqb_tells}
-use Rattle.codestream_model.specs.TagTrees.{Seat, root_level, levels_from}
+use Rattle.codestream_model.specs.TagTrees.{Seat}
 use Rattle.precinct_geometry.specs.Spans.{grid_of}
-use Rattle.tag_tree.specs.Grove.{Grove}
 use Rattle.stuffed_bits.specs.declared.part.Part.{Part}
-use Rattle.packet_header.specs.Leaves.{levels_of}
+use Rattle.tag_tree.specs.Kinds.{levels_of}
 use Rattle.packet_header.specs.Steps.{Fits}
-use Rattle.packet_header.specs.Seats.{ReadsSeat, SeatRead}
-use Rattle.packet_header.specs.Walks.{seats_from, Walks}
-use Rattle.packet_header.specs.declared.refusal.Stop.{Stop}
+use Rattle.packet_header.specs.Positions.{ReadsAt, ReadAt}
+use Rattle.packet_header.specs.Walks.{positions_from}
+use Rattle.packet_header.specs.declared.refusal.HeaderStop.{HeaderStop}
 use Rattle.packet_header.specs.declared.step.Step.{Step}
 use Rattle.packet_header.specs.declared.step.Step.TheVariants.{Inclusion}
-use Rattle.packet_header.proofs.SeatMoves.{unread_free, same_levels}
-use Rattle.packet_header.proofs.SeatRuns.{shape_kept, same_shape}
+use Rattle.packet_header.proofs.PositionMoves.{unread_free, same_levels}
+use Rattle.packet_header.proofs.PositionRuns.{shape_kept, same_shape}
 use Rattle.packet_header.proofs.WalkMoves.{walk_none, walk_step, walk_halts, next_in_row, next_row}
 use Rattle.packet_header.proofs.grids.TagTrees.read_grid.Goals as goal
 
@@ -36,11 +35,11 @@ loop-row-init c = record {
   inclusion = same_shape c.args.self.now.inclusion;
   planes = same_shape c.args.self.now.planes;
   capacity = refl;
-  walks = λ nodes others k before done h. walk_none (levels_of c.args.self.now.inclusion) (seats_from (grid_of c.args.grid) c.args.row.now c.args.col.now) nodes others c.args.self.now c.args.step.now before done c.args.source.now c.args.blocks.now.items k h;
+  walks = λ nodes others k before done h. walk_none (levels_of c.args.self.now.inclusion) (positions_from (grid_of c.args.grid) c.args.row.now c.args.col.now) nodes others c.args.self.now c.args.step.now before done c.args.source.now c.args.blocks.now.items k h;
 }
 
-pub returns-in_err-read_seat-clause-read : goal.returns-in_err-read_seat-clause-read
-returns-in_err-read_seat-clause-read c = λ nodes others k before done h.
+pub returns-in_err-read_at-clause-read : goal.returns-in_err-read_at-clause-read
+returns-in_err-read_at-clause-read c = λ nodes others k before done h.
     let p = err_from_is_err_and c.from_residual.result c.from_residual.ensures.1 in
     let g = grid_of c.args.grid in
     let i = c.loop-row.invariant in
@@ -51,16 +50,16 @@ returns-in_err-read_seat-clause-read c = λ nodes others k before done h.
     let levels = levels_of c.args.self.now.inclusion in
     let same : levels_of c.loop-row.self.inclusion ≡ levels = same_levels c.args.self.now.inclusion c.loop-row.self.inclusion (i.same.inclusion_cols ∙ sym own.inclusion_cols) (i.same.inclusion_rows ∙ sym own.inclusion_rows) in
     let w = i.walks nodes others k before done h in
-    let stopped = c.in_err-read_seat.field-0.0 in
-    let R : Result (Unit {0}) Stop → Type 0 = λ x. ReadsSeat (levels_of c.loop-row.self.inclusion) s w.known w.known_others c.read_seat.new.self c.loop-row.step c.read_seat.new.step before (done ++ w.bits) c.loop-row.source c.read_seat.new.source c.loop-row.blocks.items c.read_seat.new.blocks.items x in
-    let P : List ℕ → Type 0 = λ ls. ReadsSeat ls s w.known w.known_others c.read_seat.new.self c.loop-row.step c.read_seat.new.step before (done ++ w.bits) c.loop-row.source c.read_seat.new.source c.loop-row.blocks.items c.read_seat.new.blocks.items (Err stopped) in
-    let here = subst P same (subst R c.in_err-read_seat.was (c.read_seat.ensures.read w.known w.known_others w.knows before (done ++ w.bits) w.stands)) in
-    let first = seats_from g c.args.row.now c.args.col.now in
+    let stopped = c.in_err-read_at.field-0.0 in
+    let R : Result (Unit {0}) HeaderStop → Type 0 = λ x. ReadsAt (levels_of c.loop-row.self.inclusion) s w.known w.known_others c.read_at.new.self c.loop-row.step c.read_at.new.step before (done ++ w.bits) c.loop-row.source c.read_at.new.source c.loop-row.blocks.items c.read_at.new.blocks.items x in
+    let P : List ℕ → Type 0 = λ ls. ReadsAt ls s w.known w.known_others c.read_at.new.self c.loop-row.step c.read_at.new.step before (done ++ w.bits) c.loop-row.source c.read_at.new.source c.loop-row.blocks.items c.read_at.new.blocks.items (Err stopped) in
+    let here = subst P same (subst R c.in_err-read_at.was (c.read_at.ensures.read w.known w.known_others w.knows before (done ++ w.bits) w.holds)) in
+    let first = positions_from g c.args.row.now c.args.col.now in
     rw (p.1, p.2) (elim (eqb_tells (col + 1) g.cols) [
-      | inl t ↦ walk_halts levels s first (seats_from g row col) (seats_from g (row + 1) 0) nodes others c.loop-row.self c.read_seat.new.self c.args.step.now c.loop-row.step c.read_seat.new.step before done c.args.source.now c.loop-row.source c.read_seat.new.source c.args.blocks.now.items c.loop-row.blocks.items c.read_seat.new.blocks.items stopped
+      | inl t ↦ walk_halts levels s first (positions_from g row col) (positions_from g (row + 1) 0) nodes others c.loop-row.self c.read_at.new.self c.args.step.now c.loop-row.step c.read_at.new.step before done c.args.source.now c.loop-row.source c.read_at.new.source c.args.blocks.now.items c.loop-row.blocks.items c.read_at.new.blocks.items stopped
           (next_row g row col c.loop-row-test.true t.1) i.piece w here
       | inr t ↦ let less : col + 1 < g.cols = let ne : col + 1 ≢ g.cols = t.1 in omega (arith, i.col_in, ne) in
-          walk_halts levels s first (seats_from g row col) (seats_from g row (col + 1)) nodes others c.loop-row.self c.read_seat.new.self c.args.step.now c.loop-row.step c.read_seat.new.step before done c.args.source.now c.loop-row.source c.read_seat.new.source c.args.blocks.now.items c.loop-row.blocks.items c.read_seat.new.blocks.items stopped
+          walk_halts levels s first (positions_from g row col) (positions_from g row (col + 1)) nodes others c.loop-row.self c.read_at.new.self c.args.step.now c.loop-row.step c.read_at.new.step before done c.args.source.now c.loop-row.source c.read_at.new.source c.args.blocks.now.items c.loop-row.blocks.items c.read_at.new.blocks.items stopped
           (next_in_row g row col c.loop-row-test.true less) i.piece w here
     ])
 
@@ -68,7 +67,7 @@ pub loop-row-smaller-then-col-grid : goal.loop-row-smaller-then-col-grid
 loop-row-smaller-then-col-grid c =
     let g = grid_of c.args.grid in
     let i = c.loop-row.invariant in
-    let e : seats_from g c.loop-row.row c.loop-row.col ≡ record { band = g.band; col = c.loop-row.col; row = c.loop-row.row } ∷ seats_from g (c.loop-row.row + 1) (0) = next_row g c.loop-row.row c.loop-row.col c.loop-row-test.true c.if-col-grid.true in
+    let e : positions_from g c.loop-row.row c.loop-row.col ≡ record { band = g.band; col = c.loop-row.col; row = c.loop-row.row } ∷ positions_from g (c.loop-row.row + 1) (0) = next_row g c.loop-row.row c.loop-row.col c.loop-row-test.true c.if-col-grid.true in
     omega (arith, ap (λ (l : List Seat). length l) e)
 
 pub loop-row-preserved-then-col-grid : goal.loop-row-preserved-then-col-grid
@@ -78,53 +77,53 @@ loop-row-preserved-then-col-grid c =
     let row = c.loop-row.row in
     let col = c.loop-row.col in
     let s : Seat = record { band = g.band; col = col; row = row } in
-    let next = seats_from g (c.loop-row.row + 1) (0) in
-    let e : seats_from g row col ≡ s ∷ next = next_row g c.loop-row.row c.loop-row.col c.loop-row-test.true c.if-col-grid.true in
+    let next = positions_from g (c.loop-row.row + 1) (0) in
+    let e : positions_from g row col ≡ s ∷ next = next_row g c.loop-row.row c.loop-row.col c.loop-row-test.true c.if-col-grid.true in
     let own = c.requires.same in
     let levels = levels_of c.args.self.now.inclusion in
     let same : levels_of c.loop-row.self.inclusion ≡ levels = same_levels c.args.self.now.inclusion c.loop-row.self.inclusion (i.same.inclusion_cols ∙ sym own.inclusion_cols) (i.same.inclusion_rows ∙ sym own.inclusion_rows) in
-    let new = c.read_seat.new.self in
-    let a = c.read_seat.ensures.inclusion in
-    let b = c.read_seat.ensures.planes in
-    let kept = c.in_ok-read_seat.ensures.fits in
+    let new = c.read_at.new.self in
+    let a = c.read_at.ensures.inclusion in
+    let b = c.read_at.ensures.planes in
+    let kept = c.in_ok-read_at.ensures.fits in
     let q = i.ready in
-    let R0 : Result (Unit {0}) Stop → Type 0 = λ x. ReadsSeat (levels_of c.loop-row.self.inclusion) s q.nodes q.others new c.loop-row.step c.read_seat.new.step q.before q.done c.loop-row.source c.read_seat.new.source c.loop-row.blocks.items c.read_seat.new.blocks.items x in
-    let here : SeatRead (levels_of c.loop-row.self.inclusion) s q.nodes q.others new c.loop-row.step q.before q.done c.read_seat.new.source c.loop-row.blocks.items c.read_seat.new.blocks.items =
-    subst R0 c.in_ok-read_seat.was (c.read_seat.ensures.read q.nodes q.others q.knows q.before q.done q.stands) in
+    let R0 : Result (Unit {0}) HeaderStop → Type 0 = λ x. ReadsAt (levels_of c.loop-row.self.inclusion) s q.nodes q.others new c.loop-row.step c.read_at.new.step q.before q.done c.loop-row.source c.read_at.new.source c.loop-row.blocks.items c.read_at.new.blocks.items x in
+    let here : ReadAt (levels_of c.loop-row.self.inclusion) s q.nodes q.others new c.loop-row.step q.before q.done c.read_at.new.source c.loop-row.blocks.items c.read_at.new.blocks.items =
+    subst R0 c.in_ok-read_at.was (c.read_at.ensures.read q.nodes q.others q.knows q.before q.done q.holds) in
     record {
-      within = c.read_seat.ensures.within;
-      piece = c.read_seat.ensures.piece ∙ i.piece;
+      within = c.read_at.ensures.within;
+      piece = c.read_at.ensures.piece ∙ i.piece;
       ready = record {
         before = q.before;
         done = q.done ++ here.bits;
         nodes = here.known;
         others = here.known_others;
-        stands = here.stands;
+        holds = here.holds;
         knows = here.knows;
-        unread = unread_free (levels_of new.planes) (record { band = g.band; col = 0; row = c.loop-row.row + 1 }) here.known_others c.read_seat.new.step c.read_seat.new.source.bits.part kept.0;
+        unread = unread_free (levels_of new.planes) (record { band = g.band; col = 0; row = c.loop-row.row + 1 }) here.known_others c.read_at.new.step c.read_at.new.source.bits.part kept.0;
       };
-      fits = fits_next c.read_seat.new.step c.read_seat.new.source.bits.part kept.1 kept.0;
+      fits = fits_next c.read_at.new.step c.read_at.new.source.bits.part kept.1 kept.0;
       same = record { inclusion_cols = a.cols ∙ i.same.inclusion_cols; inclusion_rows = a.rows ∙ i.same.inclusion_rows; planes_cols = b.cols ∙ i.same.planes_cols; planes_rows = b.rows ∙ i.same.planes_rows };
       col_in = omega (arith, i.col_in);
-      few = omega (arith, i.few, c.read_seat.ensures.few, ap (λ (l : List Seat). length l) e);
-      room = omega (arith, i.room, c.read_seat.ensures.few, c.read_seat.ensures.capacity, ap (λ (l : List Seat). length l) e);
+      few = omega (arith, i.few, c.read_at.ensures.few, ap (λ (l : List Seat). length l) e);
+      room = omega (arith, i.room, c.read_at.ensures.few, c.read_at.ensures.capacity, ap (λ (l : List Seat). length l) e);
       none = λ z. kept.1;
       inclusion = shape_kept c.args.self.now.inclusion c.loop-row.self.inclusion new.inclusion i.inclusion a;
       planes = shape_kept c.args.self.now.planes c.loop-row.self.planes new.planes i.planes b;
-      capacity = c.read_seat.ensures.capacity ∙ i.capacity;
+      capacity = c.read_at.ensures.capacity ∙ i.capacity;
       walks = λ nodes others k before done h.
           let w = i.walks nodes others k before done h in
-          let R : Result (Unit {0}) Stop → Type 0 = λ x. ReadsSeat (levels_of c.loop-row.self.inclusion) s w.known w.known_others new c.loop-row.step c.read_seat.new.step before (done ++ w.bits) c.loop-row.source c.read_seat.new.source c.loop-row.blocks.items c.read_seat.new.blocks.items x in
-          let P : List ℕ → Type 0 = λ ls. SeatRead ls s w.known w.known_others new c.loop-row.step before (done ++ w.bits) c.read_seat.new.source c.loop-row.blocks.items c.read_seat.new.blocks.items in
-          walk_step levels s (seats_from g c.args.row.now c.args.col.now) (seats_from g row col) next nodes others c.loop-row.self new c.args.step.now c.loop-row.step c.read_seat.new.step before done c.loop-row.source c.read_seat.new.source c.args.blocks.now.items c.loop-row.blocks.items c.read_seat.new.blocks.items
-          e kept.1 w (subst P same (subst R c.in_ok-read_seat.was (c.read_seat.ensures.read w.known w.known_others w.knows before (done ++ w.bits) w.stands)));
+          let R : Result (Unit {0}) HeaderStop → Type 0 = λ x. ReadsAt (levels_of c.loop-row.self.inclusion) s w.known w.known_others new c.loop-row.step c.read_at.new.step before (done ++ w.bits) c.loop-row.source c.read_at.new.source c.loop-row.blocks.items c.read_at.new.blocks.items x in
+          let P : List ℕ → Type 0 = λ ls. ReadAt ls s w.known w.known_others new c.loop-row.step before (done ++ w.bits) c.read_at.new.source c.loop-row.blocks.items c.read_at.new.blocks.items in
+          walk_step levels s (positions_from g c.args.row.now c.args.col.now) (positions_from g row col) next nodes others c.loop-row.self new c.args.step.now c.loop-row.step c.read_at.new.step before done c.loop-row.source c.read_at.new.source c.args.blocks.now.items c.loop-row.blocks.items c.read_at.new.blocks.items
+          e kept.1 w (subst P same (subst R c.in_ok-read_at.was (c.read_at.ensures.read w.known w.known_others w.knows before (done ++ w.bits) w.holds)));
     }
 
 pub loop-row-smaller : goal.loop-row-smaller
 loop-row-smaller c =
     let g = grid_of c.args.grid in
     let i = c.loop-row.invariant in
-    let e : seats_from g c.loop-row.row c.loop-row.col ≡ record { band = g.band; col = c.loop-row.col; row = c.loop-row.row } ∷ seats_from g (c.loop-row.row) (c.loop-row.col + 1) = next_in_row g c.loop-row.row c.loop-row.col c.loop-row-test.true (let ne : c.loop-row.col + 1 ≢ c.args.grid.cols = c.if-col-grid.false in omega (arith, i.col_in, ne)) in
+    let e : positions_from g c.loop-row.row c.loop-row.col ≡ record { band = g.band; col = c.loop-row.col; row = c.loop-row.row } ∷ positions_from g (c.loop-row.row) (c.loop-row.col + 1) = next_in_row g c.loop-row.row c.loop-row.col c.loop-row-test.true (let ne : c.loop-row.col + 1 ≢ c.args.grid.cols = c.if-col-grid.false in omega (arith, i.col_in, ne)) in
     omega (arith, ap (λ (l : List Seat). length l) e)
 
 pub loop-row-preserved : goal.loop-row-preserved
@@ -134,44 +133,44 @@ loop-row-preserved c =
     let row = c.loop-row.row in
     let col = c.loop-row.col in
     let s : Seat = record { band = g.band; col = col; row = row } in
-    let next = seats_from g (c.loop-row.row) (c.loop-row.col + 1) in
-    let e : seats_from g row col ≡ s ∷ next = next_in_row g c.loop-row.row c.loop-row.col c.loop-row-test.true (let ne : c.loop-row.col + 1 ≢ c.args.grid.cols = c.if-col-grid.false in omega (arith, i.col_in, ne)) in
+    let next = positions_from g (c.loop-row.row) (c.loop-row.col + 1) in
+    let e : positions_from g row col ≡ s ∷ next = next_in_row g c.loop-row.row c.loop-row.col c.loop-row-test.true (let ne : c.loop-row.col + 1 ≢ c.args.grid.cols = c.if-col-grid.false in omega (arith, i.col_in, ne)) in
     let own = c.requires.same in
     let levels = levels_of c.args.self.now.inclusion in
     let same : levels_of c.loop-row.self.inclusion ≡ levels = same_levels c.args.self.now.inclusion c.loop-row.self.inclusion (i.same.inclusion_cols ∙ sym own.inclusion_cols) (i.same.inclusion_rows ∙ sym own.inclusion_rows) in
-    let new = c.read_seat.new.self in
-    let a = c.read_seat.ensures.inclusion in
-    let b = c.read_seat.ensures.planes in
-    let kept = c.in_ok-read_seat.ensures.fits in
+    let new = c.read_at.new.self in
+    let a = c.read_at.ensures.inclusion in
+    let b = c.read_at.ensures.planes in
+    let kept = c.in_ok-read_at.ensures.fits in
     let q = i.ready in
-    let R0 : Result (Unit {0}) Stop → Type 0 = λ x. ReadsSeat (levels_of c.loop-row.self.inclusion) s q.nodes q.others new c.loop-row.step c.read_seat.new.step q.before q.done c.loop-row.source c.read_seat.new.source c.loop-row.blocks.items c.read_seat.new.blocks.items x in
-    let here : SeatRead (levels_of c.loop-row.self.inclusion) s q.nodes q.others new c.loop-row.step q.before q.done c.read_seat.new.source c.loop-row.blocks.items c.read_seat.new.blocks.items =
-    subst R0 c.in_ok-read_seat.was (c.read_seat.ensures.read q.nodes q.others q.knows q.before q.done q.stands) in
+    let R0 : Result (Unit {0}) HeaderStop → Type 0 = λ x. ReadsAt (levels_of c.loop-row.self.inclusion) s q.nodes q.others new c.loop-row.step c.read_at.new.step q.before q.done c.loop-row.source c.read_at.new.source c.loop-row.blocks.items c.read_at.new.blocks.items x in
+    let here : ReadAt (levels_of c.loop-row.self.inclusion) s q.nodes q.others new c.loop-row.step q.before q.done c.read_at.new.source c.loop-row.blocks.items c.read_at.new.blocks.items =
+    subst R0 c.in_ok-read_at.was (c.read_at.ensures.read q.nodes q.others q.knows q.before q.done q.holds) in
     record {
-      within = c.read_seat.ensures.within;
-      piece = c.read_seat.ensures.piece ∙ i.piece;
+      within = c.read_at.ensures.within;
+      piece = c.read_at.ensures.piece ∙ i.piece;
       ready = record {
         before = q.before;
         done = q.done ++ here.bits;
         nodes = here.known;
         others = here.known_others;
-        stands = here.stands;
+        holds = here.holds;
         knows = here.knows;
-        unread = unread_free (levels_of new.planes) (record { band = g.band; col = c.loop-row.col + 1; row = c.loop-row.row }) here.known_others c.read_seat.new.step c.read_seat.new.source.bits.part kept.0;
+        unread = unread_free (levels_of new.planes) (record { band = g.band; col = c.loop-row.col + 1; row = c.loop-row.row }) here.known_others c.read_at.new.step c.read_at.new.source.bits.part kept.0;
       };
-      fits = fits_next c.read_seat.new.step c.read_seat.new.source.bits.part kept.1 kept.0;
+      fits = fits_next c.read_at.new.step c.read_at.new.source.bits.part kept.1 kept.0;
       same = record { inclusion_cols = a.cols ∙ i.same.inclusion_cols; inclusion_rows = a.rows ∙ i.same.inclusion_rows; planes_cols = b.cols ∙ i.same.planes_cols; planes_rows = b.rows ∙ i.same.planes_rows };
       col_in = let ne : c.loop-row.col + 1 ≢ c.args.grid.cols = c.if-col-grid.false in omega (arith, i.col_in, ne);
-      few = omega (arith, i.few, c.read_seat.ensures.few, ap (λ (l : List Seat). length l) e);
-      room = omega (arith, i.room, c.read_seat.ensures.few, c.read_seat.ensures.capacity, ap (λ (l : List Seat). length l) e);
+      few = omega (arith, i.few, c.read_at.ensures.few, ap (λ (l : List Seat). length l) e);
+      room = omega (arith, i.room, c.read_at.ensures.few, c.read_at.ensures.capacity, ap (λ (l : List Seat). length l) e);
       none = λ z. kept.1;
       inclusion = shape_kept c.args.self.now.inclusion c.loop-row.self.inclusion new.inclusion i.inclusion a;
       planes = shape_kept c.args.self.now.planes c.loop-row.self.planes new.planes i.planes b;
-      capacity = c.read_seat.ensures.capacity ∙ i.capacity;
+      capacity = c.read_at.ensures.capacity ∙ i.capacity;
       walks = λ nodes others k before done h.
           let w = i.walks nodes others k before done h in
-          let R : Result (Unit {0}) Stop → Type 0 = λ x. ReadsSeat (levels_of c.loop-row.self.inclusion) s w.known w.known_others new c.loop-row.step c.read_seat.new.step before (done ++ w.bits) c.loop-row.source c.read_seat.new.source c.loop-row.blocks.items c.read_seat.new.blocks.items x in
-          let P : List ℕ → Type 0 = λ ls. SeatRead ls s w.known w.known_others new c.loop-row.step before (done ++ w.bits) c.read_seat.new.source c.loop-row.blocks.items c.read_seat.new.blocks.items in
-          walk_step levels s (seats_from g c.args.row.now c.args.col.now) (seats_from g row col) next nodes others c.loop-row.self new c.args.step.now c.loop-row.step c.read_seat.new.step before done c.loop-row.source c.read_seat.new.source c.args.blocks.now.items c.loop-row.blocks.items c.read_seat.new.blocks.items
-          e kept.1 w (subst P same (subst R c.in_ok-read_seat.was (c.read_seat.ensures.read w.known w.known_others w.knows before (done ++ w.bits) w.stands)));
+          let R : Result (Unit {0}) HeaderStop → Type 0 = λ x. ReadsAt (levels_of c.loop-row.self.inclusion) s w.known w.known_others new c.loop-row.step c.read_at.new.step before (done ++ w.bits) c.loop-row.source c.read_at.new.source c.loop-row.blocks.items c.read_at.new.blocks.items x in
+          let P : List ℕ → Type 0 = λ ls. ReadAt ls s w.known w.known_others new c.loop-row.step before (done ++ w.bits) c.read_at.new.source c.loop-row.blocks.items c.read_at.new.blocks.items in
+          walk_step levels s (positions_from g c.args.row.now c.args.col.now) (positions_from g row col) next nodes others c.loop-row.self new c.args.step.now c.loop-row.step c.read_at.new.step before done c.loop-row.source c.read_at.new.source c.args.blocks.now.items c.loop-row.blocks.items c.read_at.new.blocks.items
+          e kept.1 w (subst P same (subst R c.in_ok-read_at.was (c.read_at.ensures.read w.known w.known_others w.knows before (done ++ w.bits) w.holds)));
     }

@@ -2,7 +2,7 @@
 use Rattle.std.proofs.Common.{length}
 use Rattle.std.proofs.lemmas.Bool.{leb-true, le-leb}
 use Rattle.packet_header.specs.Answers.{block_of}
-use Rattle.packet_header.proofs.SeatWalks.{none_left, all_left}
+use Rattle.packet_header.proofs.PositionWalks.{none_left, all_left}
 use Rattle.packet_header.proofs.queue.Queue.is_done.Goals as goal
 
 pub returns : goal.returns

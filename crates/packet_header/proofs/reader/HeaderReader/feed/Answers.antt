@@ -1,5 +1,5 @@
 -- By what is read next.
-use Rattle.std.proofs.Common.{◌≡◌, ◌++◌, ℕ, Bool, true, List, length, sym, ◌∙◌, ap, subst, arith}
+use Rattle.std.proofs.Common.{◌≡◌, ◌++◌, Bool, length, sym, ◌∙◌, ap, subst, arith}
 use Rattle.codestream_model.specs.Bytes.{IsBytes}
 use Rattle.codestream_model.specs.MarkedHeader.{marked_header_of}
 use Rattle.codestream_model.proofs.BytesLemmas.{bytes_join}

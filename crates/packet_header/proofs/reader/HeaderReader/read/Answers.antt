@@ -1,5 +1,5 @@
 -- As after one piece.
-use Rattle.std.proofs.Common.{◌≡◌, ◌+◌, ◌++◌, ℕ, Bool, List, [], map, length, take, sym, ◌∙◌, ap, subst, arith}
+use Rattle.std.proofs.Common.{◌≡◌, ◌+◌, ℕ, Bool, List, [], map, take, sym, ◌∙◌, subst, arith}
 use Rattle.codestream_model.specs.Values as values
 use Rattle.codestream_model.specs.Bytes.{IsBytes}
 use Rattle.codestream_model.specs.MarkedHeader.{SpellsMarkedHeader, marked_header_of}

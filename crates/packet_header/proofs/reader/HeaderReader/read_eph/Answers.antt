@@ -1,5 +1,5 @@
 -- The two bytes of EPH.
-use Rattle.std.proofs.Common.{◌≡◌, ◌≢◌, ◌<◌, ◌≤◌, ◌++◌, ℕ, true, List, length, sym, subst, arith}
+use Rattle.std.proofs.Common.{◌≢◌, ◌<◌, ◌≤◌, ◌++◌, ℕ, true, length, sym, subst, arith}
 use Rattle.codestream_model.specs.MarkedHeader.{marked_header_of}
 use Rattle.packet_header.specs.Answers.{Tells}
 use Rattle.packet_header.specs.Headers.{ReaderState, grids_of, IsFed, counted_out}

@@ -1,12 +1,11 @@
 -- The source begins with the bits in hand.
-use Rattle.std.proofs.Common.{◌≡◌, ◌++◌, ℕ, List, [], take, refl, sym, ◌∙◌, ap, subst}
+use Rattle.std.proofs.Common.{◌≡◌, ◌++◌, ℕ, List, take, sym, ◌∙◌, ap, subst}
 use Rattle.std.proofs.lemmas.List.{append-nil}
 use Rattle.codestream_model.specs.PacketHeaderReading.{read_bits}
-use Rattle.stuffed_bits.specs.Hand.{Hand}
+use Rattle.stuffed_bits.specs.BitInState.{BitInState}
 use Rattle.packet_header.specs.Moves.{taken_of}
 use Rattle.packet_header.specs.Blocks.{HasTaken}
 use Rattle.packet_header.specs.Headers.{ReaderState, grids_of}
-use Rattle.packet_header.specs.declared.blocks.BlocksReader.{BlocksReader}
 use Rattle.packet_header.proofs.reader.HeaderReader.read_header.Goals as goal
 
 pub returns-clause-rests : goal.returns-clause-rests
@@ -17,7 +16,7 @@ returns-clause-rests c = λ need bytes t.
     let none : taken_of bytes source ≡ bytes = ap (λ (n : ℕ). bytes ++ take n source.piece.now) c.new-source.ensures.at ∙ append-nil bytes in
     let bits : source.bits ≡ r.bits = c.new-source.ensures.bits ∙ (c.replace-bits.ensures.value ∙ ap (λ (s : ReaderState). s.bits) c.self.view_is) in
     let B : List ℕ → Type 0 = λ l. HasTaken (read_bits gs) r.progress l r.bits in
-    let H : Hand → Type 0 = λ h. HasTaken (read_bits gs) r.progress (taken_of bytes source) h in
+    let H : BitInState → Type 0 = λ h. HasTaken (read_bits gs) r.progress (taken_of bytes source) h in
     let S : ReaderState → Type 0 = λ s. HasTaken (read_bits (grids_of s)) s.progress (taken_of bytes source) source.bits in
     let ready = subst S (sym c.self.view_is) (subst H (sym bits) (subst B (sym none) t)) in
     let all = c.read-read.ensures.rests need bytes ready in

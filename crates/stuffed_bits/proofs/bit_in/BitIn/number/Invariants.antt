@@ -13,7 +13,7 @@ invariant-loop-wanted l = record {
   onward : l.fn.at ≤ l.at;
   within : l.at ≤ length l.piece;
   free : l.self.part ≡ Nothing;
-  stands : (bits : List Bool) (bytes : List ℕ) → HasRead bits bytes l.fn.self → HasDrawn (bits ++ number_bits (l.width - l.wanted) l.value) (bytes ++ slice_range l.piece l.fn.at l.at) l.self;
+  holds : (bits : List Bool) (bytes : List ℕ) → HasRead bits bytes l.fn.self → HasDrawn (bits ++ number_bits (l.width - l.wanted) l.value) (bytes ++ slice_range l.piece l.fn.at l.at) l.self;
 }
 
 abbrev pub decreases-loop-wanted : goal.decreases-loop-wanted

@@ -2,29 +2,22 @@
 use Rattle.std.proofs.Common.{◌≡◌, ◌<◌, ◌+◌, ◌++◌, ℕ, Bool, List, replicate, refl, ◌∙◌, ap, subst, arith}
 use Rattle.std.proofs.lemmas.List.{append-nil}
 use Rattle.std.specs.List.{slice_range}
-use Rattle.stuffed_bits.specs.Hand.{Hand, part_bits}
+use Rattle.stuffed_bits.specs.BitInState.{BitInState, part_bits}
 use Rattle.stuffed_bits.specs.declared.part.Part.{Part}
 use Rattle.stuffed_bits.specs.declared.part.Part.TheVariants.{Nothing}
 use Rattle.stuffed_bits.specs.BitsRead.{HasDrawn, HasRead}
 use Rattle.stuffed_bits.specs.RunsRead.{run_bits}
-use Rattle.stuffed_bits.proofs.ReadLemmas.{front_behind}
-use Rattle.stuffed_bits.proofs.RunAnswers.{whole_run, run_joins, run_ends, run_needs, run_breaks}
+use Rattle.stuffed_bits.proofs.ReadLemmas.{front_behind, same_end}
+use Rattle.stuffed_bits.proofs.RunAnswers.{whole_run, run_joins, run_ends, run_stops}
 use Rattle.stuffed_bits.proofs.PartsRead.{drawn_before, read_free, read_part, run_before, run_kept}
 use Rattle.stuffed_bits.proofs.bit_in.BitIn.run.Goals as goal
 
-pub returns-in-Need-clause-exact : goal.returns-in-Need-clause-exact
-returns-in-Need-clause-exact c = λ bits bytes r.
+pub returns-in-Err-clause-exact : goal.returns-in-Err-clause-exact
+returns-in-Err-clause-exact c = λ bits bytes r.
     let i = c.loop-count.invariant in
     let taken = bytes ++ slice_range c.args.piece.now c.args.at.now c.loop-count.at in
-    run_needs c.args.of c.args.most c.loop-count.count bits bytes c.args.piece.now c.args.at.now c.loop-count.at c.loop-count.self c.loop-count-test.true i.onward (i.stands bits bytes r)
-    (c.in-Need.ensures.ended (bits ++ replicate c.loop-count.count c.args.of) taken (i.stands bits bytes r))
-
-pub returns-in-Stuffed-clause-exact : goal.returns-in-Stuffed-clause-exact
-returns-in-Stuffed-clause-exact c = λ bits bytes r.
-    let i = c.loop-count.invariant in
-    let taken = bytes ++ slice_range c.args.piece.now c.args.at.now c.loop-count.at in
-    run_breaks c.args.of c.args.most c.loop-count.count bits bytes c.args.piece.now c.args.at.now c.loop-count.at c.loop-count.self c.loop-count-test.true i.onward (i.stands bits bytes r)
-    (c.in-Stuffed.ensures.ended (bits ++ replicate c.loop-count.count c.args.of) taken (i.stands bits bytes r))
+    run_stops c.args.of c.args.most c.loop-count.count bits bytes c.args.piece.now c.args.at.now c.loop-count.at c.loop-count.self c.in-Err.stopped c.loop-count-test.true i.onward (i.holds bits bytes r)
+    (same_end _ c.ready.result c.in-Err.stopped c.in-Err.is (c.ready.ensures.ended (bits ++ replicate c.loop-count.count c.args.of) taken (i.holds bits bytes r)))
 
 -- the bits up to the end of the run were read
 ended : (c : goal.In-Ended) (bits : List Bool) (bytes : List ℕ) → HasRead bits bytes c.args.self.now
@@ -36,14 +29,14 @@ ended c bits bytes r =
     let all = taken ++ slice_range c.args.piece.now c.loop-count.at c.ready.new.at in
     let few : c.loop-count.count + c.in-Ended.more < c.args.most = omega (arith, c.in-Ended.ensures.part, c.loop-count-test.true) in
     run_ends c.args.of c.args.most c.loop-count.count c.in-Ended.more bits bytes c.args.piece.now c.args.at.now c.loop-count.at c.ready.new.at c.give_run.new.self few i.onward c.ready.ensures.onward
-    (c.in-Ended.ensures.stands before all (c.ready.ensures.begun c.in-Yes.is before taken (i.stands bits bytes r)))
+    (c.in-Ended.ensures.draws before all (c.in_default.ensures.begun before taken (i.holds bits bytes r)))
 
 -- and nothing of another value
 ended_free : (c : goal.In-Ended) → c.give_run.new.self.part ≡ Nothing
 ended_free c = c.in-Ended.ensures.kept ∙ (c.ready.ensures.kept ∙ c.loop-count.invariant.free)
 
-pub returns-in-Ended-clause-stands : goal.returns-in-Ended-clause-stands
-returns-in-Ended-clause-stands c = λ n e bits bytes r.
+pub returns-in-Ended-clause-gives : goal.returns-in-Ended-clause-gives
+returns-in-Ended-clause-gives c = λ n e bits bytes r.
     let v : c.loop-count.count + c.in-Ended.more ≡ n = cc in
     rw (← v) (read_free (bits ++ run_bits c.args.of c.args.most (c.loop-count.count + c.in-Ended.more)) (bytes ++ slice_range c.args.piece.now c.args.at.now c.ready.new.at) c.give_run.new.self (ended_free c) (ended c bits bytes r))
 
@@ -56,25 +49,25 @@ returns-in-Ended-clause-exact c = λ bits bytes r.
     )
 
 pub returns-in-Ended-clause-free : goal.returns-in-Ended-clause-free
-returns-in-Ended-clause-free c = λ n e few. ended_free c
+returns-in-Ended-clause-free c = λ few. ended_free c
 
 pub returns-in-Ended-clause-fresh : goal.returns-in-Ended-clause-fresh
-returns-in-Ended-clause-fresh c = λ none n e. ended_free c
+returns-in-Ended-clause-fresh c = λ none. ended_free c
 
-pub returns-in-Need-clause-waits : goal.returns-in-Need-clause-waits
-returns-in-Need-clause-waits c = λ e bits bytes r.
+pub returns-in-Err-clause-waits : goal.returns-in-Err-clause-waits
+returns-in-Err-clause-waits c = λ e bits bytes r.
     let i = c.loop-count.invariant in
-    let u = c.in-Need.ensures.unchanged (λ q. cc) in
+    let u = c.in-Err.ensures.unchanged in
     rw u.1 (read_part bits (replicate c.loop-count.count c.args.of) (bytes ++ slice_range c.args.piece.now c.args.at.now c.loop-count.at) c.loop-count.self _ refl
-    (ap (λ (h : Hand). h.last) c.self.view_is ∙ ap (λ (h : Hand). h.last) u.0) (ap (λ (h : Hand). h.left) c.self.view_is ∙ ap (λ (h : Hand). h.left) u.0) (i.stands bits bytes r))
+    (ap (λ (h : BitInState). h.last) c.self.view_is ∙ ap (λ (h : BitInState). h.last) u.0) (ap (λ (h : BitInState). h.left) c.self.view_is ∙ ap (λ (h : BitInState). h.left) u.0) (i.holds bits bytes r))
 
 pub returns-then-before-most-clause-exact : goal.returns-then-before-most-clause-exact
 returns-then-before-most-clause-exact c = λ bits bytes r.
     let b = c.take_run-before in
     (omega arith, run_before c.args.of c.args.most b.result (part_bits b.new.self.part) bits bytes c.args.piece.now c.args.at.now c.args.self.now b.new.self c.if-before-most.true b.ensures.bits b.ensures.last b.ensures.left r)
 
-pub returns-then-before-most-clause-stands : goal.returns-then-before-most-clause-stands
-returns-then-before-most-clause-stands c = λ n e bits bytes r.
+pub returns-then-before-most-clause-gives : goal.returns-then-before-most-clause-gives
+returns-then-before-most-clause-gives c = λ n e bits bytes r.
     let b = c.take_run-before in
     let v : c.args.most ≡ n = cc in
     rw (← v) (run_kept c.args.of c.args.most b.result bits bytes c.args.piece.now c.args.at.now c.args.self.now b.new.self c.if-before-most.true b.ensures.bits b.ensures.last b.ensures.left r)
@@ -88,7 +81,7 @@ loop-count-init c =
       onward = omega arith;
       within = c.requires.inside;
       free = free;
-      stands = λ bits bytes r. drawn_before bits (replicate b.result c.args.of) bytes c.args.piece.now c.args.at.now c.args.self.now b.new.self
+      holds = λ bits bytes r. drawn_before bits (replicate b.result c.args.of) bytes c.args.piece.now c.args.at.now c.args.self.now b.new.self
           (b.ensures.bits ∙ (ap (λ (p : Part). replicate b.result c.args.of ++ part_bits p) free ∙ append-nil (replicate b.result c.args.of))) b.ensures.last b.ensures.left r;
     }
 
@@ -101,12 +94,12 @@ loop-count-preserved c =
       onward = omega (arith, i.onward, c.ready.ensures.onward);
       within = c.ready.ensures.within;
       free = c.in-Whole.ensures.kept ∙ (c.ready.ensures.kept ∙ i.free);
-      stands = λ bits bytes r.
+      holds = λ bits bytes r.
           let before = bits ++ replicate c.loop-count.count c.args.of in
           let taken = bytes ++ slice_range c.args.piece.now c.args.at.now c.loop-count.at in
           let all = taken ++ slice_range c.args.piece.now c.loop-count.at c.ready.new.at in
           run_joins c.args.of c.loop-count.count c.in-Whole.more bits bytes c.args.piece.now c.args.at.now c.loop-count.at c.ready.new.at c.give_run.new.self i.onward c.ready.ensures.onward
-          (c.in-Whole.ensures.stands before all (c.ready.ensures.begun c.in-Yes.is before taken (i.stands bits bytes r)));
+          (c.in-Whole.ensures.draws before all (c.in_default.ensures.begun before taken (i.holds bits bytes r)));
     }
 
 -- all bits of the run were read
@@ -116,10 +109,10 @@ whole c bits bytes r =
     let i = c.loop-count.invariant in
     let all : c.loop-count.count ≡ c.args.most = omega (arith, i.few) in
     let P : List Bool → Type 0 = λ l. HasDrawn (bits ++ l) (bytes ++ slice_range c.args.piece.now c.args.at.now c.loop-count.at) c.loop-count.self in
-    subst P (whole_run c.args.of c.args.most c.loop-count.count all) (i.stands bits bytes r)
+    subst P (whole_run c.args.of c.args.most c.loop-count.count all) (i.holds bits bytes r)
 
-pub returns-clause-stands : goal.returns-clause-stands
-returns-clause-stands c = λ n e bits bytes r.
+pub returns-clause-gives : goal.returns-clause-gives
+returns-clause-gives c = λ n e bits bytes r.
     let v : c.loop-count.count ≡ n = cc in
     rw (← v) (read_free (bits ++ run_bits c.args.of c.args.most c.loop-count.count) (bytes ++ slice_range c.args.piece.now c.args.at.now c.loop-count.at) c.loop-count.self c.loop-count.invariant.free (whole c bits bytes r))
 

@@ -11,7 +11,7 @@ invariant-loop-count l = record {
   onward : l.fn.at ≤ l.at;
   within : l.at ≤ length l.piece;
   free : l.self.part ≡ Nothing;
-  stands : (bits : List Bool) (bytes : List ℕ) → HasRead bits bytes l.fn.self → HasDrawn (bits ++ replicate l.count l.of) (bytes ++ slice_range l.piece l.fn.at l.at) l.self;
+  holds : (bits : List Bool) (bytes : List ℕ) → HasRead bits bytes l.fn.self → HasDrawn (bits ++ replicate l.count l.of) (bytes ++ slice_range l.piece l.fn.at l.at) l.self;
 }
 
 abbrev pub decreases-loop-count : goal.decreases-loop-count

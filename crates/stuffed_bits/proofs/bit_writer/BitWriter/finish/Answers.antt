@@ -1,7 +1,7 @@
 -- What closes the bits, by their last byte.
 use Rattle.std.proofs.Common.{◌≡◌, ◌≢◌, ◌<◌, ◌≤◌, length, refl, sym, ap, arith}
-use Rattle.stuffed_bits.specs.Pen.{Pen}
-use Rattle.stuffed_bits.proofs.PenLemmas.{closed_other, length_ff, length_other, writes_closing}
+use Rattle.stuffed_bits.specs.BitWriterState.{BitWriterState}
+use Rattle.stuffed_bits.proofs.WriterLemmas.{closed_other, length_ff, length_other, writes_closing}
 use Rattle.stuffed_bits.proofs.bit_writer.BitWriter.finish.Goals as goal
 use Rattle.stuffed_bits.proofs.bit_writer.BitWriter.finish.Goals.{then-self+else-len-buf, else-self}
 
@@ -18,7 +18,7 @@ returns-clause-full c = λ bits r.
       λ h. absurd (elim c.if-self.branch [
         | then-self+else-len-buf w ↦
             let ff : c.args.self.now.last ≡ 255 = rw (← c.self.view_is) w.if-self.true in
-            let len : c.self.inside.len ≡ c.args.self.now.len = ap (λ (p : Pen). p.len) c.self.view_is in
+            let len : c.self.inside.len ≡ c.args.self.now.len = ap (λ (p : BitWriterState). p.len) c.self.view_is in
             omega (arith, w.if-len-buf.false, length_ff bits c.args.buf.now c.args.self.now ff r)
         | else-self w ↦
             let other : c.args.self.now.last ≢ 255 = rw (← c.self.view_is) w.if-self.false in
@@ -29,7 +29,7 @@ returns-clause-full c = λ bits r.
 pub returns-clause-packed : goal.returns-clause-packed
 returns-clause-packed c = λ bits r.
     let below : c.args.self.now.len ≤ length c.args.buf.now = c.requires.inside in
-    let len : c.self.inside.len ≡ c.args.self.now.len = ap (λ (p : Pen). p.len) c.self.view_is in
+    let len : c.self.inside.len ≡ c.args.self.now.len = ap (λ (p : BitWriterState). p.len) c.self.view_is in
     elim c.if-self.branch [
       | then-self+else-len-buf w ↦
           let ff : c.args.self.now.last ≡ 255 = rw (← c.self.view_is) w.if-self.true in

@@ -2,7 +2,7 @@
 use Rattle.std.proofs.Common.{◌≡◌, ◌≢◌, ◌<◌, ◌-◌, ℕ, length, sym, ◌∙◌, ap, subst, arith}
 use Rattle.codestream_model.specs.TagTrees.{Seat}
 use Rattle.tag_tree.specs.Places.{place_of}
-use Rattle.tag_tree.specs.Grove.{Grove}
+use Rattle.tag_tree.specs.TreeState.{TreeState}
 use Rattle.tag_tree.specs.LeafWriting.{IsOn, IsLowered, lowered_at}
 use Rattle.tag_tree.proofs.FillLemmas.{lowers_leaf, lowers_more}
 use Rattle.tag_tree.proofs.tree.Tree.+lower.Goals as goal
@@ -16,7 +16,7 @@ returns-then-level-gt0-clause-lowered t c =
     let P : ℕ → Type 0 = λ p. p < length now.labels in
     let inside = subst P place c.place-place.ensures.labelled in
     let is : c.lower_node.new.self ≡ lowered_at now (place_of now.cols now.rows c.args.level c.args.col c.args.row) c.args.label = c.lower_node.ensures ∙ ap (λ (p : ℕ). lowered_at now p c.args.label) place in
-    let Q : Grove → Type 0 = λ v. IsLowered v c.lower.new.self s c.args.label (c.args.level - 1) in
+    let Q : TreeState → Type 0 = λ v. IsLowered v c.lower.new.self s c.args.label (c.args.level - 1) in
     let some : c.args.level ≢ 0 = λ e. omega arith in
     lowers_more now c.lower.new.self s c.args.level c.args.label at inside some (subst Q is c.lower.ensures.lowered)
 
@@ -29,6 +29,6 @@ returns-else-level-gt0-clause-lowered t c =
     let P : ℕ → Type 0 = λ p. p < length now.labels in
     let inside = subst P place c.place-place.ensures.labelled in
     let is : c.lower_node.new.self ≡ lowered_at now (place_of now.cols now.rows c.args.level c.args.col c.args.row) c.args.label = c.lower_node.ensures ∙ ap (λ (p : ℕ). lowered_at now p c.args.label) place in
-    let Q : Grove → Type 0 = λ v. IsLowered now v s c.args.label c.args.level in
+    let Q : TreeState → Type 0 = λ v. IsLowered now v s c.args.label c.args.level in
     let leaf : c.args.level ≡ 0 = omega arith in
     subst Q (sym is) (lowers_leaf now s c.args.level c.args.label at inside leaf)

@@ -2,7 +2,7 @@
 use Rattle.std.proofs.Common.{◌≡◌, ◌<◌, ◌≤◌, ◌*◌, ℕ, length, slice_index, ◌∙◌, ap, subst, arith, vec_len}
 use Rattle.std.proofs.lemmas.Grind.{common_steps}
 use Rattle.tag_tree.specs.Places.{place_of}
-use Rattle.tag_tree.specs.Grove.{Grove, nodes_of}
+use Rattle.tag_tree.specs.TreeState.{TreeState, nodes_of}
 use Rattle.tag_tree.specs.LeafWriting.{IsLowered}
 use Rattle.tag_tree.proofs.PlaceLemmas.{place_in_list}
 use Rattle.tag_tree.proofs.FillLemmas.{LeastOf, least_of_none, least_of_more, least_of_all, leaf_of, some_cols, col_within, row_within, none_met, same_twice}
@@ -12,8 +12,8 @@ pub loop-at-init : goal.loop-at-init
 loop-at-init c =
     let view = c.self.view_is in
     record {
-      same = record { leaves = ap (λ (t : Grove). t.leaves) view; cols = ap (λ (t : Grove). t.cols) view; rows = ap (λ (t : Grove). t.rows) view; root = ap (λ (t : Grove). t.root) view };
-      met = ap (λ (t : Grove). t.met) view;
+      same = record { leaves = ap (λ (t : TreeState). t.leaves) view; cols = ap (λ (t : TreeState). t.cols) view; rows = ap (λ (t : TreeState). t.rows) view; root = ap (λ (t : TreeState). t.root) view };
+      met = ap (λ (t : TreeState). t.met) view;
       least = least_of_none _ c.args.leaves.now (vec_len c.self.inside.labels) (c.fill.ensures.items (λ y e. e))
           (λ level s on low.
           let col : s.col < c.self.inside.cols = on.col in
@@ -28,8 +28,8 @@ loop-at-init c =
 -- a leaf's place is among those of the grid
 few : (c : goal.After-lower) → c.loop-at.at < c.lower.inside.cols * c.lower.inside.rows
 few c =
-    let cols : c.lower.inside.cols ≡ c.args.self.now.cols = ap (λ (t : Grove). t.cols) c.lower.view_is ∙ c.loop-at.invariant.same.cols in
-    let rows : c.lower.inside.rows ≡ c.args.self.now.rows = ap (λ (t : Grove). t.rows) c.lower.view_is ∙ c.loop-at.invariant.same.rows in
+    let cols : c.lower.inside.cols ≡ c.args.self.now.cols = ap (λ (t : TreeState). t.cols) c.lower.view_is ∙ c.loop-at.invariant.same.cols in
+    let rows : c.lower.inside.rows ≡ c.args.self.now.rows = ap (λ (t : TreeState). t.rows) c.lower.view_is ∙ c.loop-at.invariant.same.rows in
     rw (cols, rows, ← c.requires.leaves) c.loop-at-test.true
 
 pub nonzero_rem-at : goal.nonzero_rem-at
@@ -44,20 +44,20 @@ few_now c = rw (c.loop-at.invariant.same.cols, c.loop-at.invariant.same.rows, �
 
 pub lower-requires-clause-col_in : goal.lower-requires-clause-col_in
 lower-requires-clause-col_in c =
-    let cols : c.lower.inside.cols ≡ c.loop-at.self.cols = ap (λ (t : Grove). t.cols) c.lower.view_is in
+    let cols : c.lower.inside.cols ≡ c.loop-at.self.cols = ap (λ (t : TreeState). t.cols) c.lower.view_is in
     rw cols (col_within c.loop-at.self.cols c.loop-at.at (some_cols c.loop-at.self.cols c.loop-at.self.rows c.loop-at.at (few_now c)))
 
 pub lower-requires-clause-row_in : goal.lower-requires-clause-row_in
 lower-requires-clause-row_in c =
-    let cols : c.lower.inside.cols ≡ c.loop-at.self.cols = ap (λ (t : Grove). t.cols) c.lower.view_is in
+    let cols : c.lower.inside.cols ≡ c.loop-at.self.cols = ap (λ (t : TreeState). t.cols) c.lower.view_is in
     rw cols (row_within c.loop-at.self.cols c.loop-at.self.rows c.loop-at.at (few_now c))
 
 pub loop-at-preserved : goal.loop-at-preserved
 loop-at-preserved c =
     let t = c.loop-at.self in
     let now = c.lower-in-loop-at.new.self in
-    let cols : c.lower.inside.cols ≡ t.cols = ap (λ (g : Grove). g.cols) c.lower.view_is in
-    let root : c.lower.inside.root ≡ t.root = ap (λ (g : Grove). g.root) c.lower.view_is in
+    let cols : c.lower.inside.cols ≡ t.cols = ap (λ (g : TreeState). g.cols) c.lower.view_is in
+    let root : c.lower.inside.root ≡ t.root = ap (λ (g : TreeState). g.root) c.lower.view_is in
     let same = c.lower-in-loop-at.ensures.same in
     let h = c.lower-in-loop-at.ensures.lowered in
     let v = slice_index c.args.leaves.now c.loop-at.at in

@@ -1,6 +1,6 @@
 -- A place is within both lists.
 use Rattle.std.proofs.Common.{◌≡◌, ◌<◌, ◌≤◌, ◌+◌, ◌*◌, ◌/◌, ◌^◌, length, slice_index, ◌∙◌, ap, arith}
-use Rattle.tag_tree.specs.Grove.{Grove, nodes_of}
+use Rattle.tag_tree.specs.TreeState.{TreeState, nodes_of}
 use Rattle.tag_tree.specs.Places.{base_of, place_of}
 use Rattle.tag_tree.proofs.PlaceLemmas.{place_in_list}
 use Rattle.tag_tree.proofs.tree.Tree.place.Goals as goal
@@ -8,27 +8,27 @@ use Rattle.tag_tree.proofs.tree.Tree.place.Goals as goal
 -- the node is in the list
 in_list : (c : goal.After-width) → place_of c.self.inside.cols c.self.inside.rows c.args.level c.args.col c.args.row < nodes_of c.self.inside.leaves
 in_list c =
-    let col : c.args.col < c.self.inside.cols = omega (arith, c.requires.col_in, ap (λ (t : Grove). t.cols) c.self.view_is) in
-    let row : c.args.row < c.self.inside.rows = omega (arith, c.requires.row_in, ap (λ (t : Grove). t.rows) c.self.view_is) in
-    let low : c.args.level ≤ 16 = omega (arith, c.requires.low, ap (λ (t : Grove). t.root) c.self.view_is, c.self.invariant.4) in
+    let col : c.args.col < c.self.inside.cols = omega (arith, c.requires.col_in, ap (λ (t : TreeState). t.cols) c.self.view_is) in
+    let row : c.args.row < c.self.inside.rows = omega (arith, c.requires.row_in, ap (λ (t : TreeState). t.rows) c.self.view_is) in
+    let low : c.args.level ≤ 16 = omega (arith, c.requires.low, ap (λ (t : TreeState). t.root) c.self.view_is, c.self.invariant.4) in
     place_in_list c.self.inside.cols c.self.inside.rows c.args.level c.args.col c.args.row c.self.inside.leaves col row low c.self.invariant.1
 
 -- and it stands where the definitions say
-stands : (c : goal.After-width) → slice_index c.self.inside.bases c.args.level + c.args.row / 2 ^ c.args.level * c.width.result + c.args.col / 2 ^ c.args.level ≡ place_of c.self.inside.cols c.self.inside.rows c.args.level c.args.col c.args.row
-stands c =
-    let low : c.args.level < 17 = omega (arith, c.requires.low, ap (λ (t : Grove). t.root) c.self.view_is, c.self.invariant.4) in
+holds : (c : goal.After-width) → slice_index c.self.inside.bases c.args.level + c.args.row / 2 ^ c.args.level * c.width.result + c.args.col / 2 ^ c.args.level ≡ place_of c.self.inside.cols c.self.inside.rows c.args.level c.args.col c.args.row
+holds c =
+    let low : c.args.level < 17 = omega (arith, c.requires.low, ap (λ (t : TreeState). t.root) c.self.view_is, c.self.invariant.4) in
     let base : slice_index c.self.inside.bases c.args.level ≡ base_of c.self.inside.cols c.self.inside.rows c.args.level = c.self.invariant.6 c.args.level low in
     rw (base, c.width.ensures) (omega arith)
 
 pub overflow_add-result : goal.overflow_add-result
-overflow_add-result c = omega (arith, stands c, in_list c, c.self.invariant.0)
+overflow_add-result c = omega (arith, holds c, in_list c, c.self.invariant.0)
 
 pub overflow_add-result-2 : goal.overflow_add-result-2
-overflow_add-result-2 c = omega (arith, stands c, in_list c, c.self.invariant.0)
+overflow_add-result-2 c = omega (arith, holds c, in_list c, c.self.invariant.0)
 
 pub returns : goal.returns
 returns c = record {
-  place = stands c ∙ ap (λ (t : Grove). place_of t.cols t.rows c.args.level c.args.col c.args.row) c.self.view_is;
-  labelled = omega (arith, stands c, in_list c, c.self.invariant.2, ap (λ (t : Grove). length t.labels) c.self.view_is);
-  listed = omega (arith, stands c, in_list c, c.self.invariant.3, ap (λ (t : Grove). length t.met) c.self.view_is);
+  place = holds c ∙ ap (λ (t : TreeState). place_of t.cols t.rows c.args.level c.args.col c.args.row) c.self.view_is;
+  labelled = omega (arith, holds c, in_list c, c.self.invariant.2, ap (λ (t : TreeState). length t.labels) c.self.view_is);
+  listed = omega (arith, holds c, in_list c, c.self.invariant.3, ap (λ (t : TreeState). length t.met) c.self.view_is);
 }

@@ -1,6 +1,6 @@
 -- Nothing is known of a tree whose nodes were all cleared.
 use Rattle.std.proofs.Common.{◌≡◌, ◌<◌, ◌≤◌, ◌*◌, ◌++◌, ℕ, Bool, false, List, take, drop, replicate, slice_index_or, sym, ◌∙◌, ap, subst, append_assoc, arith}
-use Rattle.tag_tree.specs.Grove.{nodes_of}
+use Rattle.tag_tree.specs.TreeState.{nodes_of}
 use Rattle.tag_tree.proofs.PlaceLemmas.{place_in_list}
 use Rattle.tag_tree.proofs.KnowLemmas.{knows_nothing, cleared}
 use Rattle.tag_tree.proofs.tree.Tree.reset.Goals as goal
@@ -10,10 +10,10 @@ use Rattle.tag_tree.proofs.tree.Tree.reset.Goals.{then-rows-eq0, else-rows-eq0}
 front : (c : goal.After-self-5-1) (len place : ℕ) (rest : List Bool) → place < nodes_of (c.args.cols * c.args.rows) → slice_index_or (take len (c.clear.new.met ++ rest)) place false ≡ false
 front c len place rest h =
     let n = c.most_nodes-nodes.result in
-    let behind = drop n c.deref_mut.result.now in
+    let bits_after = drop n c.deref_mut.result.now in
     let P : List Bool → Type 0 = λ l. slice_index_or (take len l) place false ≡ false in
-    let joined : c.clear.new.met ++ rest ≡ replicate n false ++ (behind ++ rest) = ap (λ (l : List Bool). l ++ rest) c.clear.ensures ∙ append_assoc (replicate n false) behind rest in
-    subst P (sym joined) (cleared n len place (behind ++ rest) (omega (arith, h, c.most_nodes-nodes.ensures)))
+    let joined : c.clear.new.met ++ rest ≡ replicate n false ++ (bits_after ++ rest) = ap (λ (l : List Bool). l ++ rest) c.clear.ensures ∙ append_assoc (replicate n false) bits_after rest in
+    subst P (sym joined) (cleared n len place (bits_after ++ rest) (omega (arith, h, c.most_nodes-nodes.ensures)))
 
 -- no root is above level 16
 low_root : (c : goal.After-self-5-1) → c.if-rows-eq0.self ≤ 16
