@@ -1,4 +1,4 @@
-mod Delivered
+pub mod Delivered
 mod Received
 mod WorkedDeliveries
 mod Picked

@@ -15,6 +15,8 @@ scl carries JPEG 2000 codestreams over RTP. It reads standard input and writes s
 
   scl thin T                      passes on the frames of a capture that serve a receiver with the limit T,
                                   0 to 7: each Main, and each Body whose RES is at most T
+  scl deliver LIST                writes the frames of a capture at the positions of LIST, counted from 0: none, or
+                                  positions and ranges with commas between them, as 0-4,6
   scl report KIND SOURCE WINDOW   shows the precincts that a capture gives of a stream, each as soon as it is
                                   complete; SOURCE is an SSRC or any, WINDOW 1 to 16384 datagrams
   scl relay MAX IDLE LOCAL PEER T DEPTH ..
@@ -51,7 +53,7 @@ fn words_of<R: Env + AllocGlobal>(rt: &R) -> Result<Words, AllocError> {
     }
 }
 
-/// The page that a word asks for where it stands alone.
+/// The page that a word asks for where it is the only one.
 fn page_for(words: &Words) -> Option<&'static str> {
     if words.len() != 1 {
         return None;

@@ -33,7 +33,7 @@ range_more a (suc n) =
     let e : a + 1 + n ≡ a + suc n = omega arith in
     ap (λ (l : List ℕ). a ∷ l) (range_more (a + 1) n ∙ ap (λ (k : ℕ). range_with_len (a + 1) n ++ k ∷ []) e)
 
--- the lines of the numbers that are behind, and that of one more
+-- the lines of the numbers that are after, and that of one more
 pub one_more_line : (f : ℕ → List ℕ) (o now new added : List ℕ) (n : ℕ)
     → now ≡ o ++ flat_map f (range_with_len 0 n)
     → added ≡ f n

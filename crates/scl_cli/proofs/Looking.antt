@@ -105,12 +105,12 @@ refuses s t u len buf es fs fault ended l e refusal is trace within end =
       enough = few_read s t len buf es (effects fs).read l (ap (λ (f : Effects). f.read) is);
     }
 
--- for another reason than want of bytes,
+-- for another reason than missing bytes,
 pub refused_so : (s t : Meaning) (len : ℕ) (buf : List ℕ) (es : List Event) (fault : HeadFault) → Looking s t len buf es → Err fault ≡ read_as (head_of (take len buf))
     → RefusesHead (take len buf) fault.at (refusal_of fault.why) → fault.why ≢ Cut → Finds s t (Err (Refused (record { at = fault.at; reason = Header fault.why }))) es
 refused_so s t len buf es fault l e refusal other = refuses s t t len buf es es fault false l e refusal l.bytes l.trace l.within (λ h. absurd (other (cc)))
 
--- and for want of bytes, at the input's end
+-- and for missing bytes, at the input's end
 pub refused_short : (s t u : Meaning) (len : ℕ) (buf : List ℕ) (es : List Event) (fault : HeadFault) → Looking s t len buf es → Wanting len buf fault → Step t Ended u
     → Finds s u (Err (Refused (record { at = fault.at; reason = Header fault.why }))) (es ++ Ended ∷ [])
 refused_short s t u len buf es fault l w step =

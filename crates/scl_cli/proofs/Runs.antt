@@ -13,9 +13,11 @@ use Rattle.scl_run.proofs.HeaderInputLaws.{header_input_is_lawful}
 use Rattle.scl_run.proofs.InputClassLaws.{no_input_is_lawful}
 use Rattle.scl_run.proofs.Performed.{performed}
 use Rattle.parse_job.proofs.Lawful.{codestreams_are_lawful}
+use Rattle.deliver_job.specs.Items.{ranges_of}
+use Rattle.deliver_job.proofs.Lawful.{delivered_inputs_are_lawful}
 use Rattle.scl_run.proofs.Decided.{decides, wants}
 use Rattle.scl_cli.specs.declared.command.Command.{Command}
-use Rattle.scl_cli.specs.declared.command.Command.TheVariants.{Thin, Head, Order, Parse, Report, Relay}
+use Rattle.scl_cli.specs.declared.command.Command.TheVariants.{Thin, Head, Order, Parse, Report, Relay, Deliver}
 use Rattle.scl_cli.specs.Commands.{Spells}
 use Rattle.scl_cli.specs.Jobs.{job}
 use Rattle.scl_cli.specs.Runs.{Ran}
@@ -28,6 +30,7 @@ lawful Order = header_input_is_lawful
 lawful (Parse stamps) = codestreams_are_lawful
 lawful (Report pick) = capture_input_is_lawful
 lawful (Relay settings) = no_input_is_lawful
+lawful (Deliver list) = delivered_inputs_are_lawful (ranges_of list)
 
 -- words that spell nothing are said to
 pub spells_nothing : (words : List (List ℕ)) (s t : Meaning) → ((command : Command) → Spells command words → None ≡ Some command) → Step s (Noted words_line) t → Ran words s t 2

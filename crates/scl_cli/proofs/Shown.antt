@@ -30,7 +30,7 @@ shows lines bytes s t e step = record {
   gives = and_then-nothing (only_written bytes) ∙ ap (λ (l : List ℕ). only_written l) e;
 }
 
--- or a front of them did
+-- or a prefix of them did
 pub shows_front : (lines bytes front rest : List ℕ) (s t : Meaning) → bytes ≡ lines → bytes ≡ front ++ rest → Step s (WriteFailed front) t → Shows lines s t WriteFault (WriteFailed front ∷ [])
 shows_front lines bytes front rest s t e split step = record {
   trace = trace_one s t (WriteFailed front) step;
@@ -49,7 +49,7 @@ wrote_more lines line more s t u es is w step = record {
   gives = effects_more es (Wrote line) (only_written lines) w.gives ∙ ap (λ (l : List ℕ). only_written l) (sym is);
 }
 
--- or a front of it did, and others were to follow
+-- or a prefix of it did, and others were to follow
 pub wrote_front : (lines line front rest more all : List ℕ) (s t u : Meaning) (es : List Event) → all ≡ (lines ++ line) ++ more → line ≡ front ++ rest → Puts lines s t Put es → Step t (WriteFailed front) u
     → Puts all s u NotPut (es ++ WriteFailed front ∷ [])
 wrote_front lines line front rest more all s t u es is split w step = record {
@@ -65,7 +65,7 @@ wrote_front lines line front rest more all s t u es is split w step = record {
   regroup : (a b c d : List ℕ) → (a ++ (b ++ c)) ++ d ≡ (a ++ b) ++ (c ++ d)
   regroup a b c d = simp append_assoc refl
 
--- the lines went out one after another, or a front of them
+-- the lines went out one after another, or a prefix of them
 pub orders : (all lines : List ℕ) (s t : Meaning) (es : List Event) → lines ≡ all → Puts lines s t Put es → Shows all s t Done es
 orders all lines s t es e w = record { trace = w.trace; within = w.within; gives = w.gives ∙ ap (λ (l : List ℕ). only_written l) e }
 

@@ -3,9 +3,10 @@ use Rattle.std.specs.Prelude.{◌≡◌, ◌≤◌, ◌<◌, ◌^◌, ℕ, List,
 use Rattle.stream_receiver.specs.declared.pick.Pick.{Pick}
 use Rattle.relay_job.specs.Settings.{Target, AreSettings}
 use Rattle.scl_cli.specs.declared.command.Command.{Command}
-use Rattle.scl_cli.specs.declared.command.Command.TheVariants.{Thin, Head, Order, Parse, Report, Relay}
+use Rattle.scl_cli.specs.declared.command.Command.TheVariants.{Thin, Head, Order, Parse, Report, Relay, Deliver}
 use Rattle.scl_cli.specs.declared.command.Stamps.{Stamps}
 use Rattle.scl_cli.specs.declared.command.Verb.{Verb}
+use Rattle.deliver_job.specs.Positions.{IsList, list_word}
 use Rattle.scl_cli.specs.declared.command.Verb.TheVariants as verb
 
 -- The first word of a command.
@@ -16,6 +17,7 @@ verb_word verb.Order = codes "order"
 verb_word verb.Parse = codes "parse"
 verb_word verb.Report = codes "report"
 verb_word verb.Relay = codes "relay"
+verb_word verb.Deliver = codes "deliver"
 
 -- The ranges of a timestamp and of a step.
 pub record IsStamps (stamps : Stamps) : Type 0 where
@@ -59,6 +61,7 @@ form Order = record { verb = verb.Order; values = []; IsInRange = Unit {0} }
 form (Parse stamps) = record { verb = verb.Parse; values = decimal stamps.first ∷ decimal stamps.step ∷ []; IsInRange = IsStamps stamps }
 form (Report pick) = record { verb = verb.Report; values = decimal pick.kind ∷ source_word pick.source ∷ decimal pick.window ∷ []; IsInRange = IsPick pick }
 form (Relay s) = record { verb = verb.Relay; values = decimal s.max ∷ decimal s.idle ∷ s.local ∷ target_words s.targets; IsInRange = AreSettings s }
+form (Deliver list) = record { verb = verb.Deliver; values = list_word list ∷ []; IsInRange = IsList list }
 
 -- The first word of a command, as a name.
 abbrev pub verb_of : Command → Verb

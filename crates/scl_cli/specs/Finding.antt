@@ -16,7 +16,7 @@ use Rattle.scl_run.specs.HeaderInput.{LacksHeader, WantsHeaderBytes, header_inpu
 abbrev pub HasNoHead : List ℕ → Type 0
 HasNoHead bytes = (refused : NoHeader) × (head_of bytes ≡ Err refused)
 
--- so far only reads were made, no main header is whole and none is refused but for want of bytes
+-- so far only reads were made, no main header is whole and none is refused but for missing bytes
 abbrev pub IsLooking : Effects → Type 0
 IsLooking f = (f ≡ only_read f.read) × HasNoHead f.read × WantsHeaderBytes f.read
 

@@ -1,11 +1,13 @@
 -- What each command is to do.
 use Rattle.scl_run.specs.Job.{Job}
 use Rattle.scl_cli.specs.declared.command.Command.{Command}
-use Rattle.scl_cli.specs.declared.command.Command.TheVariants.{Thin, Head, Order, Parse, Report, Relay}
+use Rattle.scl_cli.specs.declared.command.Command.TheVariants.{Thin, Head, Order, Parse, Report, Relay, Deliver}
 use Rattle.stream_receiver.specs.States.{pick_of}
 use Rattle.parse_job.specs.ParseJob.{parse_job}
 use Rattle.report_job.specs.Job.{report_job}
 use Rattle.relay_job.specs.Job.{relay_job}
+use Rattle.deliver_job.specs.DeliverJob.{deliver_job}
+use Rattle.deliver_job.specs.Items.{ranges_of}
 use Rattle.scl_cli.specs.ThinJob.{thin_job}
 use Rattle.scl_cli.specs.HeaderJobs.{head_job, order_job}
 
@@ -17,3 +19,4 @@ job Order = order_job
 job (Parse stamps) = parse_job stamps.first stamps.step
 job (Report pick) = report_job (pick_of pick)
 job (Relay settings) = relay_job settings
+job (Deliver list) = deliver_job (ranges_of list)

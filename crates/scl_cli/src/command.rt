@@ -5,12 +5,14 @@ ghost use Rattle.scl_cli.specs.declared.command.Verb.{Verb};
 ghost use Rattle.scl_cli.specs.Commands.{Spells, verb_word};
 
 use crate::Words;
+use crate::deliver::deliver_of;
 use crate::head::head_of;
 use crate::order::order_of;
 use crate::parse::parse_of;
 use crate::relay::relay_of;
 use crate::report::report_of;
 use crate::thin::thin_of;
+use deliver_job::Positions;
 use relay_job::Settings;
 use stream_receiver::Pick;
 
@@ -29,6 +31,8 @@ pub enum Command {
     Report(Pick),
     /// `relay MAX IDLE LOCAL` and 1 to 64 times `PEER T DEPTH`: pass on datagrams to each receiver.
     Relay(Settings),
+    /// `deliver LIST`: write the frames of a capture at the listed positions.
+    Deliver(Positions),
 }
 
 /// The timestamps of codestreams: that of the first, and the step from one to the next, at least 1, modulo 2^32.
@@ -47,6 +51,7 @@ pub enum Verb {
     Parse,
     Report,
     Relay,
+    Deliver,
 }
 
 /// The command that a word begins.
@@ -61,6 +66,7 @@ fn verb_in(word: &str) -> Option<Verb>
         "parse" => Some(Verb::Parse),
         "report" => Some(Verb::Report),
         "relay" => Some(Verb::Relay),
+        "deliver" => Some(Verb::Deliver),
         _ => None,
     }
 }
@@ -80,5 +86,6 @@ pub fn command_of(words: &Words) -> Option<Command>
         Verb::Parse => parse_of(words),
         Verb::Report => report_of(words),
         Verb::Relay => relay_of(words),
+        Verb::Deliver => deliver_of(words),
     }
 }

@@ -10,7 +10,7 @@ use j2k_markers::{Head, RPCL};
 /// Lines of a main header: one of its area, five with two numbers at most each, and two times sixteen with three.
 type Lines = ArrayString<4096>;
 
-/// Puts a line behind the lines: a word, and numbers with a blank before each.
+/// Puts a line after the lines: a word, and numbers with a blank before each.
 fn push_line(lines: &mut Lines, word: &str, numbers: &[u32])
     requires { length lines.old.bytes + length word.now + 21 * length numbers.now + 1 ≤ 4096 }
     ensures text { lines.new.bytes ≡ lines.old.bytes ++ line word.now numbers.now }
@@ -23,7 +23,7 @@ fn push_line(lines: &mut Lines, word: &str, numbers: &[u32])
     lines.push_str("\n");
 }
 
-/// Puts the line of the image's area behind the lines.
+/// Puts the line of the image's area after the lines.
 fn push_area(lines: &mut Lines, head: &Head)
     requires { length lines.old.bytes ≤ 100 }
     ensures text { lines.new.bytes ≡ lines.old.bytes ++ area_line head.now }
@@ -48,7 +48,7 @@ fn push_order(lines: &mut Lines, head: &Head)
     }
 }
 
-/// Puts the lines of the components behind the lines.
+/// Puts the lines of the components after the lines.
 fn push_components(lines: &mut Lines, head: &Head)
     requires { length lines.old.bytes ≤ 300 }
     ensures text { lines.new.bytes ≡ lines.old.bytes ++ flat_map (component_line head.now) (range_with_len 0 (length head.now.steps)) }
@@ -60,7 +60,7 @@ fn push_components(lines: &mut Lines, head: &Head)
     }
 }
 
-/// Puts the lines of the resolutions behind the lines.
+/// Puts the lines of the resolutions after the lines.
 fn push_precincts(lines: &mut Lines, head: &Head)
     requires { length lines.old.bytes ≤ 1500 }
     ensures text { lines.new.bytes ≡ lines.old.bytes ++ flat_map (precinct_line head.now) (range_with_len 0 (head.now.levels + 1)) }

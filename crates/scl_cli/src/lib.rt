@@ -2,11 +2,11 @@
 #![tactic(auto)]
 
 mod command;
+mod deliver;
 mod head;
 mod head_lines;
 mod header_input;
 mod machine;
-mod numbers;
 mod order;
 mod order_lines;
 mod parse;

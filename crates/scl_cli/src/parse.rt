@@ -5,8 +5,8 @@ ghost use Rattle.scl_cli.specs.declared.command.Verb.TheVariants as verbs;
 ghost use Rattle.scl_cli.specs.Commands.{Spells, Begins, FindsSpelt};
 
 use crate::command::Stamps;
-use crate::numbers::number_within;
 use crate::{Command, Words};
+use scl_run::number_within;
 
 /// The command that these words spell, which begin with `parse`; none where they spell no command.
 pub fn parse_of(words: &Words) -> Option<Command>

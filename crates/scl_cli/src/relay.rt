@@ -6,9 +6,9 @@ ghost use Rattle.scl_cli.specs.declared.command.Verb.TheVariants as verbs;
 ghost use Rattle.scl_cli.specs.Commands.{Spells, Begins, FindsSpelt};
 ghost use Rattle.scl_cli.specs.RelayWords.{AddsSpelt, AddsAll, SpeltTargets, FindsTargets};
 
-use crate::numbers::number_within;
 use crate::{Command, Words};
 use relay_job::Settings;
+use scl_run::number_within;
 
 /// Whether a word can be an address: 1 to 64 bytes.
 fn is_address(word: &str) -> bool

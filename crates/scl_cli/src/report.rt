@@ -4,8 +4,8 @@ ghost use Rattle.scl_cli.specs.declared.command.Command.{Command};
 ghost use Rattle.scl_cli.specs.declared.command.Verb.TheVariants as verbs;
 ghost use Rattle.scl_cli.specs.Commands.{Spells, Begins, FindsSpelt, source_word, IsSource};
 
-use crate::numbers::number_within;
 use crate::{Command, Words};
+use scl_run::number_within;
 use stream_receiver::Pick;
 
 /// The source that a word picks: an SSRC, or `any`; none where it is neither.

@@ -11,6 +11,8 @@ use std::process::Abort;
 use std::test::Fail;
 
 mod captures;
+mod delivers;
+mod forged;
 mod headers;
 mod hostile;
 mod machines;
@@ -57,6 +59,22 @@ fn run_over(
     let mut out = outside_over(alloc, input, &[], bad_reads, bad_writes)?;
     let status = run(alloc, &words, &mut out);
     Ok((status, out))
+}
+
+/// These bytes with others at some offsets, counted from `start`.
+fn with_bytes(
+    alloc: Global,
+    bytes: &[u8],
+    start: usize,
+    changes: &[(usize, u8)],
+) -> Result<Vec<u8>, AllocError> {
+    let mut all = Vec::from_slice(alloc, bytes)?;
+    for (at, byte) in changes {
+        if let Some(place) = all.get_mut(start.wrapping_add(*at)) {
+            *place = *byte;
+        }
+    }
+    Ok(all)
 }
 
 #[test]

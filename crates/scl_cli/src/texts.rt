@@ -4,7 +4,7 @@ ghost use Rattle.std.specs.Prelude.{◌≡◌, ◌≤◌, ◌+◌, ◌++◌, len
 use arrayvec::ArrayString;
 use itoa::Buffer;
 
-/// Puts a text and a number behind what stands.
+/// Puts a text and a number after the text so far.
 pub fn push_number<const ROOM: usize>(text: &mut ArrayString<ROOM>, before: &str, n: u64)
     requires { length text.old.bytes + length before.now + 20 ≤ ROOM }
     ensures text { text.new.bytes ≡ text.old.bytes ++ before.now ++ decimal n }

@@ -31,7 +31,7 @@ fn limit_of(word: &str) -> Option<u8>
     }
 }
 
-/// The command that words behind `thin` spell.
+/// The command that words after `thin` spell.
 pub fn thin_of(words: &Words) -> Option<Command>
     requires { Begins verbs.Thin words.now }
     ensures spelt { IfSome result (λ command. Spells command words.now) }

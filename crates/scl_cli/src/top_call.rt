@@ -13,6 +13,7 @@ use crate::command::{Command, command_of};
 use crate::head::show_head;
 use crate::order::show_order;
 use crate::thin::thin;
+use deliver_job::deliver;
 use parse_job::parse;
 use relay_job::relay;
 use report_job::report;
@@ -33,6 +34,7 @@ fn perform<O: Outside>(alloc: Global, command: Command, out: &mut O) -> Ending
         Command::Parse(stamps) => parse(alloc, stamps.first, stamps.step, out),
         Command::Report(pick) => report(alloc, pick, out),
         Command::Relay(settings) => relay(alloc, &settings, out),
+        Command::Deliver(list) => deliver(alloc, list.items(), out),
     }
 }
 

@@ -30,7 +30,7 @@ impl Words {
         }
     }
 
-    /// Adds a word at the end. `AllocError` for want of memory; then the words are as before.
+    /// Adds a word at the end. `AllocError` where memory ran out; then the words are as before.
     pub fn add(&mut self, word: &str) -> Result<(), AllocError>
         ensures ok { OnOk result (self.new ≡ self.old ++ word.now ∷ []) }
         ensures err { OnErr result (self.new ≡ self.old) }

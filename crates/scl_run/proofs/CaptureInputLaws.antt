@@ -1,4 +1,4 @@
--- A capture has one verdict, which stands.
+-- A capture has one verdict, which stays.
 use Rattle.std.proofs.Common.{◌≡◌, ◌<◌, ◌+◌, ℕ, List, [], ◌++◌, length, sym, ◌∙◌, ap, subst, arith, inl, inr}
 use Rattle.std.proofs.lemmas.List.{append-nil, length-append}
 use Rattle.wire_model.specs.Framing.{framing}

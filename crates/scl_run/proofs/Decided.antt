@@ -23,7 +23,7 @@ over_rest : (now : Option (List ℕ)) (rest : List ℕ) → IfSome now (λ left.
 over_rest None rest f n = absurd (cc)
 over_rest (Some now) rest f n = let e : now ≡ rest = cc in sym e ∙ f
 
--- behind the input's end nothing is left
+-- after the input's end nothing is left
 end_met : (ended : Bool) (now : Option (List ℕ)) (rest : List ℕ) → ended ≡ true → MatchBool ended (IfSome now (λ left. left ≡ [])) (Unit {0}) → now ≡ Some rest → rest ≡ []
 end_met true now rest e over n = over_rest now rest over n
 end_met false now rest e over n = absurd (cc)

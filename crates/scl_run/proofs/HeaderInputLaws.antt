@@ -1,4 +1,4 @@
--- An input has a main header at its front or is refused once, and either stands.
+-- An input has a main header at its front or is refused once, and either stays.
 use Rattle.std.proofs.Common.{◌≡◌, ℕ, List, [], ◌++◌, refl, sym, ◌∙◌, ap, subst, append_assoc}
 use Rattle.std.proofs.lemmas.List.{append-nil}
 use Rattle.codestream_model.specs.HeadRefusals.{HeadRefusal, Cut as WantsBytes}

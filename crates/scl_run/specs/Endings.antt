@@ -8,7 +8,7 @@ use Rattle.scl_run.specs.declared.ending.Refusal.{Refusal}
 use Rattle.scl_run.specs.declared.ending.Ending.{Ending}
 use Rattle.scl_run.specs.declared.ending.Ending.TheVariants.{Done, ReadFault, WriteFault, WireFault, Refused, NoMemory}
 
--- The line for an input that is refused: the offset and the reason.
+-- The line for an input that is refused: the place and the reason.
 abbrev pub refusal_line : Refusal → List ℕ
 refusal_line r = codes "scl: refused at " ++ decimal r.at ++ codes ": " ++ reason_text r.reason ++ codes "\n"
 

@@ -49,9 +49,18 @@ pub enum Reason {
     PacketHeaderTooLong,
     /// EPH doesn't follow a packet header, and the main header says that it does.
     NoEph,
+    /// A capture that is to be delivered has more than 268,435,456 bytes.
+    CaptureTooLong,
+    /// A capture has no datagram at a listed position.
+    NoSuchDatagram,
+    /// A main header has no room in a datagram.
+    HeaderTooLong,
+    /// More than 8,388,607 datagrams are due.
+    TooManyDatagrams,
 }
 
-/// Why an input is refused, and where: an offset from its start, in bytes.
+/// Why an input is refused, and where: an offset from its start, in bytes, or the position of a
+/// datagram that isn't there.
 #[derive(Clone, Copy, Debug, PartialEq, Eq)]
 pub struct Refusal {
     pub at: u64,

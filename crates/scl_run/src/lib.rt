@@ -1,10 +1,12 @@
-//! The words of a run: how it ends and what it tells the user, which inputs a job reads, what it makes of them, and what a run
-//! of a job does.
+//! What the jobs of all commands share: how a run ends and what it tells the user, which inputs a
+//! job reads, what it makes of them, and the numbers of a command line.
 #![tactic(auto)]
 
 mod ending;
 mod laws;
+mod numbers;
 mod reasons;
 
 pub use ending::{Ending, Reason, Refusal, finish};
 pub use laws::{capture_inputs_are_lawful, header_inputs_are_lawful, no_input_is_lawful};
+pub use numbers::number_within;

@@ -99,5 +99,9 @@ pub fn push_reason(line: &mut ArrayString<64>, reason: Reason)
         Reason::ZeroPlanes => line.push_str("zero planes"),
         Reason::PacketHeaderTooLong => line.push_str("packet header too long"),
         Reason::NoEph => line.push_str("no eph"),
+        Reason::CaptureTooLong => line.push_str("capture too long"),
+        Reason::NoSuchDatagram => line.push_str("no such datagram"),
+        Reason::HeaderTooLong => line.push_str("header too long"),
+        Reason::TooManyDatagrams => line.push_str("too many datagrams"),
     }
 }

@@ -18,3 +18,6 @@ parse_of-requires c = rw c.in-Parse.is at (begins _ _ _ c.get.ensures c.in_ok-ve
 
 pub relay_of-requires : goal.relay_of-requires
 relay_of-requires c = rw c.in-Relay.is at (begins _ _ _ c.get.ensures c.in_ok-verb_in.ensures.named)
+
+pub deliver_of-requires : goal.deliver_of-requires
+deliver_of-requires c = rw c.in-Deliver.is at (begins _ _ _ c.get.ensures c.in_ok-verb_in.ensures.named)

@@ -2,7 +2,7 @@ use Rattle.std.proofs.Common.{◌≡◌, ℕ, true, false, Some, sym, ap, ◌∙
 use Rattle.std.specs.Prelude.{decimal}
 use Rattle.std.proofs.lemmas.Fmt.{parse-decimal}
 use lib.Pointwise.{bytes_decides}
-use Rattle.scl_cli.proofs.numbers.number_in.Goals as goal
+use Rattle.scl_run.proofs.numbers.number_in.Goals as goal
 
 pub returns-in_default-clause-all : goal.returns-in_default-clause-all
 returns-in_default-clause-all c = λ n small is. absurd (c.in_default.not-Ok n (parse-decimal 64 n c.args.word.now c.parse.result small small is c.parse.ensures.value.0))

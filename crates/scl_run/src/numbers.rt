@@ -19,7 +19,8 @@ fn number_in(word: &str) -> Option<u64>
     }
 }
 
-/// A number from `least` to `most`, in decimal digits without a sign and without a leading zero; none for any other text.
+/// A number from `least` to `most`, in decimal digits without a sign and without a leading zero;
+/// none for any other text.
 pub fn number_within(word: &str, least: u64, most: u64) -> Option<u64>
     ensures least { IfSome result (λ n. least ≤ n) }
     ensures most { IfSome result (λ n. n ≤ most) }

@@ -1,0 +1,10 @@
+pub mod Spelling
+pub mod ListWords
+pub mod Lawful
+pub mod Missing
+pub mod BoundsLaws
+pub mod Judged
+pub mod WholeReads
+pub mod Delivered
+pub mod Putting
+pub mod Listed

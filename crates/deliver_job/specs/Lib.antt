@@ -1,0 +1,9 @@
+pub mod Items
+pub mod Positions
+pub mod Reading
+pub mod Bounds
+pub mod Writing
+pub mod DeliverInput
+pub mod DeliverJob
+pub mod ReadingAll
+pub mod Answering
