@@ -1,0 +1,6 @@
+pub mod Psot
+pub mod Fitting
+pub mod Adding
+pub mod Walking
+pub mod HeaderAndPackets
+pub mod Accepted

@@ -1,0 +1,4 @@
+pub mod HeaderLengths
+pub mod Faults
+pub mod Making
+pub mod Gathering
