@@ -5,7 +5,7 @@ mod laws;
 mod packets;
 
 pub use laws::codestreams_are_lawful;
-pub use packets::parse;
+pub use packets::{parse, refusal_of};
 
 #[cfg(test)]
 mod tests;

@@ -59,8 +59,8 @@ fn write_packet<D: Duct>(walk: &Walk, stamp: u32, out: &mut D) -> PutOut
     write_precinct(out, &walk.packet(stamp))
 }
 
-/// What is noted of a refused input.
-fn refusal_of(fault: WalkFault) -> Refusal
+/// What is noted of a refused input: the offset of its first fault, and the reason.
+pub fn refusal_of(fault: WalkFault) -> Refusal
     ensures at { result.at ≡ fault.at }
     ensures reason { result.reason ≡ reason_for (walk_refusal fault.why) }
 {

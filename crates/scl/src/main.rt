@@ -13,6 +13,9 @@ const VERSION: &str = "scl 0.1.0\n";
 const HELP: &str = "\
 scl carries JPEG 2000 codestreams over RTP. It reads standard input and writes standard output.
 
+  scl pack MTU plain|split KIND SOURCE NUMBER STAMP STEP
+                                  cuts codestreams into datagrams of at most MTU bytes, 64 to 4116, and writes them as a
+                                  capture; with split a change of resolution begins a datagram
   scl thin T                      passes on the frames of a capture that serve a receiver with the limit T,
                                   0 to 7: each Main, and each Body whose RES is at most T
   scl deliver LIST                writes the frames of a capture at the positions of LIST, counted from 0: none, or

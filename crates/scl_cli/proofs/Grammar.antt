@@ -1,5 +1,5 @@
 -- The words of a command, one by one.
-use Rattle.std.proofs.Common.{suc, zero, ◌≡◌, ℕ, List, [], ◌∷◌, Some, length, refl, sym, ap, ◌∙◌, arith}
+use Rattle.std.proofs.Common.{suc, zero, ◌≡◌, ◌<◌, ℕ, List, [], ◌∷◌, Some, length, refl, sym, ap, ◌∙◌, arith}
 use Rattle.std.specs.Prelude.{slice_get}
 use Rattle.scl_cli.specs.declared.command.Command.{Command}
 use Rattle.scl_cli.specs.declared.command.Verb.{Verb}
@@ -57,3 +57,42 @@ with_three words v first second third (w ∷ x ∷ y ∷ [], is) n a b c =
     let ey : y ≡ third = cc in
     is ∙ rw (ew, ex, ey) refl
 with_three words v first second third (w ∷ x ∷ y ∷ z ∷ more, is) n a b c = absurd (let e : suc (suc (suc (suc (suc (length more))))) ≡ 4 = sym (ap length is) ∙ n in omega arith)
+
+-- Two lists of words are one where they have the same words at each index.
+same_words : (words values : List (List ℕ)) → length words ≡ length values → ((i : ℕ) → i < length values → slice_get words i ≡ slice_get values i) → words ≡ values
+same_words [] [] n h = refl
+same_words [] (v ∷ values) n h = absurd (omega (arith, n))
+same_words (w ∷ words) [] n h = absurd (omega (arith, n))
+same_words (w ∷ words) (v ∷ values) n h =
+    let first : Some w ≡ Some v = h 0 (omega arith) in
+    let same : w ≡ v = cc in
+    ap (λ (x : List ℕ). x ∷ words) same ∙ ap (λ (l : List (List ℕ)). v ∷ l) (same_words words values (omega (arith, n)) (λ i low. h (suc i) (omega (arith, low))))
+
+-- The words at eight indices.
+record EightWords (words : List (List ℕ)) (t a b c d e f g : List ℕ) : Type 0 where
+  pub zeroth : slice_get words 0 ≡ Some t
+  pub first : slice_get words 1 ≡ Some a
+  pub second : slice_get words 2 ≡ Some b
+  pub third : slice_get words 3 ≡ Some c
+  pub fourth : slice_get words 4 ≡ Some d
+  pub fifth : slice_get words 5 ≡ Some e
+  pub sixth : slice_get words 6 ≡ Some f
+  pub seventh : slice_get words 7 ≡ Some g
+
+at_eight : (words : List (List ℕ)) (t a b c d e f g : List ℕ) → EightWords words t a b c d e f g → (i : ℕ) → i < 8 → slice_get words i ≡ slice_get (t ∷ a ∷ b ∷ c ∷ d ∷ e ∷ f ∷ g ∷ []) i
+at_eight words t a b c d e f g h zero low = h.zeroth
+at_eight words t a b c d e f g h (suc zero) low = h.first
+at_eight words t a b c d e f g h (suc (suc zero)) low = h.second
+at_eight words t a b c d e f g h (suc (suc (suc zero))) low = h.third
+at_eight words t a b c d e f g h (suc (suc (suc (suc zero)))) low = h.fourth
+at_eight words t a b c d e f g h (suc (suc (suc (suc (suc zero))))) low = h.fifth
+at_eight words t a b c d e f g h (suc (suc (suc (suc (suc (suc zero)))))) low = h.sixth
+at_eight words t a b c d e f g h (suc (suc (suc (suc (suc (suc (suc zero))))))) low = h.seventh
+at_eight words t a b c d e f g h (suc (suc (suc (suc (suc (suc (suc (suc i)))))))) low = absurd (omega (arith, low))
+
+pub with_seven : (words : List (List ℕ)) (v : Verb) (a b c d e f g : List ℕ) → Begins v words → length words ≡ 8 → slice_get words 1 ≡ Some a → slice_get words 2 ≡ Some b → slice_get words 3 ≡ Some c
+    → slice_get words 4 ≡ Some d → slice_get words 5 ≡ Some e → slice_get words 6 ≡ Some f → slice_get words 7 ≡ Some g → words ≡ verb_word v ∷ a ∷ b ∷ c ∷ d ∷ e ∷ f ∷ g ∷ []
+with_seven words v a b c d e f g (more, is) n first second third fourth fifth sixth seventh =
+    let zeroth : slice_get words 0 ≡ Some (verb_word v) = ap (λ (l : List (List ℕ)). slice_get l 0) is in
+    same_words words (verb_word v ∷ a ∷ b ∷ c ∷ d ∷ e ∷ f ∷ g ∷ []) n
+    (at_eight words (verb_word v) a b c d e f g (record { zeroth = zeroth; first = first; second = second; third = third; fourth = fourth; fifth = fifth; sixth = sixth; seventh = seventh }))

@@ -1,9 +1,10 @@
 -- The grammar of a command line.
-use Rattle.std.specs.Prelude.{◌≡◌, ◌≤◌, ◌<◌, ◌^◌, ℕ, List, [], ◌∷◌, Option, Some, None, codes, decimal}
+use Rattle.std.specs.Prelude.{◌≡◌, ◌≤◌, ◌<◌, ◌^◌, ℕ, Bool, true, false, List, [], ◌∷◌, Option, Some, None, codes, decimal}
+use Rattle.stream_model.specs.Cut.{IsPlan}
 use Rattle.stream_receiver.specs.declared.pick.Pick.{Pick}
 use Rattle.relay_job.specs.Settings.{Target, AreSettings}
 use Rattle.scl_cli.specs.declared.command.Command.{Command}
-use Rattle.scl_cli.specs.declared.command.Command.TheVariants.{Thin, Head, Order, Parse, Report, Relay, Deliver}
+use Rattle.scl_cli.specs.declared.command.Command.TheVariants.{Thin, Head, Order, Parse, Pack, Report, Relay, Deliver}
 use Rattle.scl_cli.specs.declared.command.Stamps.{Stamps}
 use Rattle.scl_cli.specs.declared.command.Verb.{Verb}
 use Rattle.deliver_job.specs.Positions.{IsList, list_word}
@@ -15,6 +16,7 @@ verb_word verb.Thin = codes "thin"
 verb_word verb.Head = codes "head"
 verb_word verb.Order = codes "order"
 verb_word verb.Parse = codes "parse"
+verb_word verb.Pack = codes "pack"
 verb_word verb.Report = codes "report"
 verb_word verb.Relay = codes "relay"
 verb_word verb.Deliver = codes "deliver"
@@ -24,6 +26,11 @@ pub record IsStamps (stamps : Stamps) : Type 0 where
   pub first : stamps.first < 2 ^ 32
   pub some : 1 ≤ stamps.step
   pub step : stamps.step < 2 ^ 16
+
+-- The word that says whether a change of resolution ends a payload.
+abbrev pub mode_word : Bool → List ℕ
+mode_word true = codes "split"
+mode_word false = codes "plain"
 
 -- The word of a source: its SSRC, or `any`.
 abbrev pub source_word : Option ℕ → List ℕ
@@ -59,6 +66,14 @@ form (Thin limit) = record { verb = verb.Thin; values = decimal limit ∷ []; Is
 form Head = record { verb = verb.Head; values = []; IsInRange = Unit {0} }
 form Order = record { verb = verb.Order; values = []; IsInRange = Unit {0} }
 form (Parse stamps) = record { verb = verb.Parse; values = decimal stamps.first ∷ decimal stamps.step ∷ []; IsInRange = IsStamps stamps }
+form (Pack p) = record {
+  verb = verb.Pack;
+  values =
+      decimal p.mtu ∷ mode_word p.split ∷ decimal p.kind ∷ decimal p.source ∷ decimal p.number ∷ decimal p.stamp
+      ∷ decimal p.step
+      ∷ [];
+  IsInRange = IsPlan p;
+}
 form (Report pick) = record { verb = verb.Report; values = decimal pick.kind ∷ source_word pick.source ∷ decimal pick.window ∷ []; IsInRange = IsPick pick }
 form (Relay s) = record { verb = verb.Relay; values = decimal s.max ∷ decimal s.idle ∷ s.local ∷ target_words s.targets; IsInRange = AreSettings s }
 form (Deliver list) = record { verb = verb.Deliver; values = list_word list ∷ []; IsInRange = IsList list }

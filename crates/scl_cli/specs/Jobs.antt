@@ -1,9 +1,10 @@
 -- What each command is to do.
 use Rattle.scl_run.specs.Job.{Job}
 use Rattle.scl_cli.specs.declared.command.Command.{Command}
-use Rattle.scl_cli.specs.declared.command.Command.TheVariants.{Thin, Head, Order, Parse, Report, Relay, Deliver}
+use Rattle.scl_cli.specs.declared.command.Command.TheVariants.{Thin, Head, Order, Parse, Pack, Report, Relay, Deliver}
 use Rattle.stream_receiver.specs.States.{pick_of}
 use Rattle.parse_job.specs.ParseJob.{parse_job}
+use Rattle.pack_job.specs.PackJob.{pack_job}
 use Rattle.report_job.specs.Job.{report_job}
 use Rattle.relay_job.specs.Job.{relay_job}
 use Rattle.deliver_job.specs.DeliverJob.{deliver_job}
@@ -17,6 +18,7 @@ job (Thin limit) = thin_job limit
 job Head = head_job
 job Order = order_job
 job (Parse stamps) = parse_job stamps.first stamps.step
+job (Pack plan) = pack_job plan
 job (Report pick) = report_job (pick_of pick)
 job (Relay settings) = relay_job settings
 job (Deliver list) = deliver_job (ranges_of list)

@@ -8,11 +8,13 @@ use crate::Words;
 use crate::deliver::deliver_of;
 use crate::head::head_of;
 use crate::order::order_of;
+use crate::pack::pack_of;
 use crate::parse::parse_of;
 use crate::relay::relay_of;
 use crate::report::report_of;
 use crate::thin::thin_of;
 use deliver_job::Positions;
+use packetiser::PackPlan;
 use relay_job::Settings;
 use stream_receiver::Pick;
 
@@ -27,6 +29,8 @@ pub enum Command {
     Order,
     /// `parse STAMP STEP`: write the lines of the packets of codestreams.
     Parse(Stamps),
+    /// `pack MTU plain|split KIND SOURCE NUMBER STAMP STEP`: cut codestreams into the datagrams of a capture.
+    Pack(PackPlan),
     /// `report KIND SOURCE WINDOW`: write the lines of the precincts that a capture gives of a stream.
     Report(Pick),
     /// `relay MAX IDLE LOCAL` and 1 to 64 times `PEER T DEPTH`: pass on datagrams to each receiver.
@@ -49,6 +53,7 @@ pub enum Verb {
     Head,
     Order,
     Parse,
+    Pack,
     Report,
     Relay,
     Deliver,
@@ -64,6 +69,7 @@ fn verb_in(word: &str) -> Option<Verb>
         "head" => Some(Verb::Head),
         "order" => Some(Verb::Order),
         "parse" => Some(Verb::Parse),
+        "pack" => Some(Verb::Pack),
         "report" => Some(Verb::Report),
         "relay" => Some(Verb::Relay),
         "deliver" => Some(Verb::Deliver),
@@ -84,6 +90,7 @@ pub fn command_of(words: &Words) -> Option<Command>
         Verb::Head => head_of(words),
         Verb::Order => order_of(words),
         Verb::Parse => parse_of(words),
+        Verb::Pack => pack_of(words),
         Verb::Report => report_of(words),
         Verb::Relay => relay_of(words),
         Verb::Deliver => deliver_of(words),

@@ -9,6 +9,7 @@ mod header_input;
 mod machine;
 mod order;
 mod order_lines;
+mod pack;
 mod parse;
 mod relay;
 mod report;

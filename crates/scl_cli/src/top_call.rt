@@ -14,6 +14,7 @@ use crate::head::show_head;
 use crate::order::show_order;
 use crate::thin::thin;
 use deliver_job::deliver;
+use pack_job::pack;
 use parse_job::parse;
 use relay_job::relay;
 use report_job::report;
@@ -32,6 +33,7 @@ fn perform<O: Outside>(alloc: Global, command: Command, out: &mut O) -> Ending
         Command::Head => show_head(out),
         Command::Order => show_order(out),
         Command::Parse(stamps) => parse(alloc, stamps.first, stamps.step, out),
+        Command::Pack(plan) => pack(alloc, plan, out),
         Command::Report(pick) => report(alloc, pick, out),
         Command::Relay(settings) => relay(alloc, &settings, out),
         Command::Deliver(list) => deliver(alloc, list.items(), out),

@@ -1,9 +1,9 @@
 mod PiecesFound
-mod ClosedComputed
-mod Refused
+pub mod ClosedComputed
+pub mod Refused
 mod Told
 mod Packed
 mod WorkedClosings
 mod WorkedSends
-mod CarriedBytes
-mod Ahead
+pub mod CarriedBytes
+pub mod Ahead

@@ -156,14 +156,14 @@ long_is_reached p bytes at l parts codestreams rest e a fit =
     ]
 
 -- Nothing after these codestreams begins with a main header that is too long.
-record EndsShort (p : Plan) (bytes : List ℕ) : Type 0 where
-  parts : List Parts
-  codestreams : List (List ℕ)
-  rest : List ℕ
-  whole : bytes ≡ joined codestreams ++ rest
-  are : AllZip (λ c b. ArePartsOf c b) parts codestreams
-  fit : AllByRecursion (Fits p) parts
-  closed : (length codestreams ≡ 65536) ⊎ (HasNoCodestream rest × ((h : Head) (header more : List ℕ) → SpellsHead h header → room p < length header → rest ≡ header ++ more → ⊥))
+pub record EndsShort (p : Plan) (bytes : List ℕ) : Type 0 where
+  pub parts : List Parts
+  pub codestreams : List (List ℕ)
+  pub rest : List ℕ
+  pub whole : bytes ≡ joined codestreams ++ rest
+  pub are : AllZip (λ c b. ArePartsOf c b) parts codestreams
+  pub fit : AllByRecursion (Fits p) parts
+  pub closed : (length codestreams ≡ 65536) ⊎ (HasNoCodestream rest × ((h : Head) (header more : List ℕ) → SpellsHead h header → room p < length header → rest ≡ header ++ more → ⊥))
 
 -- none begins where they end
 none_behind : (p : Plan) (bytes : List ℕ) (at : ℕ) (l : HasLongHeader p bytes at) (r : EndsShort p bytes) (extra : List (List ℕ)) → l.codestreams ≡ r.codestreams ++ extra → HasNoCodestream r.rest
@@ -178,7 +178,7 @@ none_behind p bytes at l r (x ∷ extra) e none short =
     none x tail is (behind ∙ append_assoc x (joined extra) (l.header ++ l.more))
 
 -- so no main header is too long
-none_is_long : (p : Plan) (bytes : List ℕ) → EndsShort p bytes → HasNoLongHeader p bytes
+pub none_is_long : (p : Plan) (bytes : List ℕ) → EndsShort p bytes → HasNoLongHeader p bytes
 none_is_long p bytes r at l =
     let n = long_is_reached p bytes at l r.parts r.codestreams r.rest r.whole r.are r.fit in
     elim r.closed [
@@ -187,7 +187,7 @@ none_is_long p bytes r at l =
     ]
 
 -- the main header at the front of bytes isn't too long
-next_is_short : (p : Plan) (rest : List ℕ) (c : Known) (b : Begins c rest) → length c.header ≤ room p → (h : Head) (header more : List ℕ) → SpellsHead h header → room p < length header → rest ≡ header ++ more → ⊥
+pub next_is_short : (p : Plan) (rest : List ℕ) (c : Known) (b : Begins c rest) → length c.header ≤ room p → (h : Head) (header more : List ℕ) → SpellsHead h header → room p < length header → rest ≡ header ++ more → ⊥
 next_is_short p rest c b short h header more s long e =
     let one = header_is_one c.head h c.header header (joined b.packets ++ b.rest) more b.is_head s (sym b.whole ∙ e) in
     omega (arith, short, long, ap length one.1)

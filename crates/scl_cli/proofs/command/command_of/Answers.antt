@@ -21,3 +21,6 @@ relay_of-requires c = rw c.in-Relay.is at (begins _ _ _ c.get.ensures c.in_ok-ve
 
 pub deliver_of-requires : goal.deliver_of-requires
 deliver_of-requires c = rw c.in-Deliver.is at (begins _ _ _ c.get.ensures c.in_ok-verb_in.ensures.named)
+
+pub pack_of-requires : goal.pack_of-requires
+pack_of-requires c = rw c.in-Pack.is at (begins _ _ _ c.get.ensures c.in_ok-verb_in.ensures.named)

@@ -8,7 +8,7 @@ pub returns-clause-ran : goal.returns-clause-ran
 returns-clause-ran g c = ran _ _ _ _ _ _ _ _ c.in-Some.ensures.spelt c.finish.ensures.status c.perform-ending.ensures.1 c.finish.ensures.note
 
 pub returns-clause-decided : goal.returns-clause-decided
-returns-clause-decided g c = λ command spells. decided _ command _ _ _ _ _ _ (c.in-Some.ensures.all command spells) c.finish.ensures.status c.perform-ending.ensures.1 c.finish.ensures.note
+returns-clause-decided g c = λ command spells. decided _ command _ _ _ _ _ _ spells.0 (c.in-Some.ensures.all command spells) c.finish.ensures.status c.perform-ending.ensures.1 c.finish.ensures.note
 
 pub returns-clause-memory : goal.returns-clause-memory
 returns-clause-memory g c = λ seven. wanted _ _ _ _ _ _ _ _ c.in-Some.ensures.spelt c.finish.ensures.status c.perform-ending.ensures.1 c.finish.ensures.note seven

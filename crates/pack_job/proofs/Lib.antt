@@ -1,0 +1,4 @@
+pub mod Octets
+pub mod Turns
+pub mod Stays
+pub mod Lawful

@@ -1,0 +1,2 @@
+pub mod SentInput
+pub mod PackJob

@@ -1,0 +1,6 @@
+pub mod Plans
+pub mod Filling
+pub mod Filled
+pub mod Knowing
+pub mod Packing
+pub mod Sending
