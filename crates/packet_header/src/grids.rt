@@ -25,7 +25,9 @@ pub struct TagTrees {
 }
 
 /// Reads the values of a code-block from a step on, and keeps it.
-#[inline(always)]
+///
+/// It isn't inlined, so that `values` has one caller and is inlined there.
+#[inline(never)]
 fn keep_values(
     step: &mut Step,
     at: Position,

@@ -82,6 +82,7 @@ impl BitIn {
     }
 
     /// Takes the next byte where all bits of the last one were read.
+    #[inline(always)]
     pub(crate) fn ready(&mut self, piece: &[u8], at: &mut usize) -> Result<(), Stop>
         requires { at.old ≤ length piece.now }
         ensures ended { IsEndAt self.old piece.now at.old result }

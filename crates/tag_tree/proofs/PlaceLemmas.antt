@@ -13,6 +13,21 @@ use Rattle.tag_tree.specs.TreeState.{nodes_of}
 pub path_within : (n level x : ℕ) → x < n → x / 2 ^ level < width_of n level
 path_within n level x h = (div-lt_iff_lt-mul (pow_pos level)).1 (omega (arith, (div_ceil_times n (2 ^ level) (pow_pos level)).0))
 
+-- a quotient that is rounded up, by the number before
+rounded_up : (n w p : ℕ) → 0 < n → n ≤ w * p → w * p < n + p → (n - 1) / p + 1 ≡ w
+rounded_up n zero p some low high = absurd (omega (arith, some, low))
+rounded_up n (suc w) p some low high =
+    let r : n - 1 ≡ w * p + (n - 1 - w * p) = omega (arith, some, high) in
+    let small : n - 1 - w * p < p = omega (arith, some, low) in
+    let e : (n - 1) / p ≡ w = ap (λ (k : ℕ). k / p) r ∙ div-mul-add w p (n - 1 - w * p) small in
+    omega (arith, e)
+
+-- the columns of a level, by the last column of the leaves
+pub width_by_last : (n level : ℕ) → 0 < n → (n - 1) / 2 ^ level + 1 ≡ width_of n level
+width_by_last n level some =
+    let bounds = div_ceil_times n (2 ^ level) (pow_pos level) in
+    rounded_up n (width_of n level) (2 ^ level) some bounds.0 bounds.1
+
 -- what two bounds on a number say of the factors
 halved : (w v p n : ℕ) → n ≤ w * p → v * (p * 2) < n + p * 2 → p * (2 * v) < p * (w + 2)
 halved w v p n h t = omega (arith, h, t)

@@ -20,6 +20,17 @@ pub fn width(leaves: u32, level: u32) -> u32
     leaves.div_ceil(1 << level)
 }
 
+/// The number of columns of a level, by that of the leaves, of which there is at least one.
+///
+/// A node's place needs it at each level of a leaf's path, so it takes fewer steps than `width`.
+pub fn cols_at(cols: u32, level: u32) -> u32
+    requires some { 0 < cols }
+    requires low { level ≤ 16 }
+    ensures { result ≡ width_of cols level }
+{
+    ((cols - 1) >> level) + 1
+}
+
 /// The most levels that a tree has: those of 65,536 leaves in a row.
 pub const LEVELS: usize = 17;
 

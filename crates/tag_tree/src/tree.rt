@@ -3,7 +3,7 @@ ghost use Rattle.std.specs.Prelude.{◌≡◌, ◌<◌, ◌≤◌, ◌*◌, ◌+
 ghost use Rattle.tag_tree.specs.Places.{place_of};
 ghost use Rattle.tag_tree.specs.LeafReading.{Knows, told_at, met_at};
 
-use crate::layout::{LEVELS, bases, exponent_of, most_nodes, width};
+use crate::layout::{LEVELS, bases, cols_at, exponent_of, most_nodes};
 use std::alloc::{AllocError, Global};
 use std::marker::Model;
 
@@ -124,7 +124,7 @@ impl Tree {
         ensures listed { result < length self.now.met }
     {
         self.bases[level as usize]
-            + (row >> level) as usize * width(self.cols, level) as usize
+            + (row >> level) as usize * cols_at(self.cols, level) as usize
             + (col >> level) as usize
     }
 

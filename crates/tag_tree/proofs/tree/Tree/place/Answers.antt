@@ -6,7 +6,7 @@ use Rattle.tag_tree.proofs.PlaceLemmas.{place_in_list}
 use Rattle.tag_tree.proofs.tree.Tree.place.Goals as goal
 
 -- the node is in the list
-in_list : (c : goal.After-width) → place_of c.self.inside.cols c.self.inside.rows c.args.level c.args.col c.args.row < nodes_of c.self.inside.leaves
+in_list : (c : goal.After-cols_at) → place_of c.self.inside.cols c.self.inside.rows c.args.level c.args.col c.args.row < nodes_of c.self.inside.leaves
 in_list c =
     let col : c.args.col < c.self.inside.cols = omega (arith, c.requires.col_in, ap (λ (t : TreeState). t.cols) c.self.view_is) in
     let row : c.args.row < c.self.inside.rows = omega (arith, c.requires.row_in, ap (λ (t : TreeState). t.rows) c.self.view_is) in
@@ -14,11 +14,11 @@ in_list c =
     place_in_list c.self.inside.cols c.self.inside.rows c.args.level c.args.col c.args.row c.self.inside.leaves col row low c.self.invariant.1
 
 -- and it stands where the definitions say
-holds : (c : goal.After-width) → slice_index c.self.inside.bases c.args.level + c.args.row / 2 ^ c.args.level * c.width.result + c.args.col / 2 ^ c.args.level ≡ place_of c.self.inside.cols c.self.inside.rows c.args.level c.args.col c.args.row
+holds : (c : goal.After-cols_at) → slice_index c.self.inside.bases c.args.level + c.args.row / 2 ^ c.args.level * c.cols_at.result + c.args.col / 2 ^ c.args.level ≡ place_of c.self.inside.cols c.self.inside.rows c.args.level c.args.col c.args.row
 holds c =
     let low : c.args.level < 17 = omega (arith, c.requires.low, ap (λ (t : TreeState). t.root) c.self.view_is, c.self.invariant.4) in
     let base : slice_index c.self.inside.bases c.args.level ≡ base_of c.self.inside.cols c.self.inside.rows c.args.level = c.self.invariant.6 c.args.level low in
-    rw (base, c.width.ensures) (omega arith)
+    rw (base, c.cols_at.ensures) (omega arith)
 
 pub overflow_add-result : goal.overflow_add-result
 overflow_add-result c = omega (arith, holds c, in_list c, c.self.invariant.0)
