@@ -4,7 +4,6 @@ use Rattle.std.proofs.lemmas.List.{append-nil, length-append}
 use Rattle.std.proofs.lemmas.Grind.{flat_map-append}
 use Rattle.codestream_model.specs.Values.{Head, Place, Block}
 use Rattle.codestream_model.specs.MainHeader.{SpellsHead}
-use Rattle.codestream_model.specs.Precincts.{grids}
 use Rattle.codestream_model.specs.PacketOrder.{IsPacketOrder}
 use Rattle.codestream_model.specs.Packet.{SpellsPacketHeader, Content, HasFewBlocks, segment_bytes, SpellsPacket}
 use Rattle.codestream_model.specs.Codestream.{SpellsPackets, IsPsotRight, IsCodestream, joined, BeginsCodestream}

@@ -2,7 +2,7 @@
 use Rattle.std.proofs.Common.{◌≡◌, ◌≤◌, ◌+◌, ℕ, List, [], ◌∷◌, ◌++◌, length, refl, sym, subst, ◌∙◌, ap, inl, inr, arith, append_assoc}
 use Rattle.std.proofs.lemmas.List.{append-nil, length-append}
 use Rattle.codestream_model.specs.Values.{Head, Place, Block}
-use Rattle.codestream_model.specs.Precincts.{grids, IsPrecinct}
+use Rattle.codestream_model.specs.Precincts.{IsPrecinct}
 use Rattle.codestream_model.specs.Packet.{SpellsPacketHeader, HasFewBlocks, segment_bytes, BeginsPacket}
 use Rattle.codestream_model.specs.Bytes.{IsBytes}
 use Rattle.codestream_walk.proofs.Bytes.{bytes_join}

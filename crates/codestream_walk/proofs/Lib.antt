@@ -3,6 +3,8 @@ pub mod Windows
 pub mod Sizes
 pub mod Packets
 pub mod Stages
+pub mod NextHeaders
+pub mod NextReads
 pub mod Stepping
 pub mod Inputs
 pub mod Refusals

@@ -4,7 +4,6 @@ use Rattle.std.proofs.lemmas.Bool.{cases_lt}
 use Rattle.std.proofs.lemmas.List.{append-nil, length-append, take_at}
 use Rattle.std.proofs.Math.Seq.{take-append-add}
 use Rattle.codestream_model.specs.Values.{Head, Place, Block}
-use Rattle.codestream_model.specs.Precincts.{grids}
 use Rattle.codestream_model.specs.Packet.{BeginsPacket, LacksSegments}
 use Rattle.codestream_model.specs.Codestream.{WalkRefusal, HeadRefused, Cut, TooManyBlocks, HeaderRefused, PacketTooLong, Psot, NoEoc, InputTooLong, TooManyFrames, joined, BeginsCodestream, RefusesCodestream, NeedsCodestreamBytes, readable, RefusesRest, RefusesPacket, RefusesEoc}
 use Rattle.codestream_model.proofs.Standing.{refusal_stands}

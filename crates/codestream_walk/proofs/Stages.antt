@@ -3,7 +3,7 @@ use Rattle.std.proofs.Common.{◌≡◌, ◌<◌, ◌≤◌, ◌+◌, ◌-◌, �
 use Rattle.std.proofs.lemmas.List.{take-append-drop, length-take}
 use Rattle.codestream_model.specs.Values.{Head, Place, Block}
 use Rattle.codestream_model.specs.MainHeader.{SpellsHead}
-use Rattle.codestream_model.specs.Precincts.{grids, IsPrecinct}
+use Rattle.codestream_model.specs.Precincts.{IsPrecinct}
 use Rattle.codestream_model.specs.HeadLimits.{IsWithinLimits}
 use Rattle.codestream_model.specs.PacketOrder.{IsPacketOrder, packet_order}
 use Rattle.codestream_model.proofs.Orders.{packet_order_is_computed}
@@ -25,7 +25,7 @@ use Rattle.codestream_walk.specs.declared.fault.WalkWhy.{WalkWhy}
 use Rattle.codestream_walk.specs.declared.fault.PieceOut.TheVariants.{Refused}
 use Rattle.codestream_walk.specs.declared.fault.Judged.{Judged}
 use Rattle.codestream_walk.specs.declared.fault.Judged.TheVariants.{Piece}
-use Rattle.codestream_walk.specs.declared.judging.Header.TheVariants.{Whole}
+use Rattle.codestream_walk.specs.declared.next_header.Header.TheVariants.{Whole}
 use Rattle.codestream_walk.specs.Progressions.{Progress, after_packet}
 use Rattle.codestream_walk.specs.declared.pieces.State.{State}
 use Rattle.codestream_walk.specs.declared.pieces.State.TheVariants as code

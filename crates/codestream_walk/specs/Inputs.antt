@@ -3,7 +3,6 @@
 use Rattle.std.specs.Prelude.{◌≡◌, ◌≤◌, ◌<◌, ◌⊎◌, ◌+◌, ◌++◌, ℕ, List, [], ◌∷◌, length, Option}
 use Rattle.std.specs.List.{AllByRecursion}
 use Rattle.codestream_model.specs.Values.{Head, Place, Block}
-use Rattle.codestream_model.specs.Precincts.{grids}
 use Rattle.codestream_model.specs.Packet.{SpellsPacketHeader, HasFewBlocks, segment_bytes}
 use Rattle.codestream_model.specs.Codestream.{WalkRefusal, Cut, InputTooLong, TooManyFrames, IsCodestream, joined, BeginsCodestream, Faults, IsInput}
 use Rattle.codestream_walk.specs.InHand.{input_limit}

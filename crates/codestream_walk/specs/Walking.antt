@@ -2,7 +2,7 @@
 use Rattle.std.specs.Prelude.{◌≡◌, ◌<◌, ◌≤◌, ◌⊎◌, ◌+◌, ◌-◌, ◌++◌, ◌==◌, ℕ, Bool, true, false, List, [], ◌∷◌, length, Option, Some, if◌then◌else◌}
 use Rattle.codestream_model.specs.Values.{Head, Place, Block}
 use Rattle.codestream_model.specs.MainHeader.{SpellsHead}
-use Rattle.codestream_model.specs.Precincts.{grids, IsPrecinct}
+use Rattle.codestream_model.specs.Precincts.{IsPrecinct}
 use Rattle.codestream_model.specs.PacketOrder.{IsPacketOrder}
 use Rattle.codestream_model.specs.Packet.{NeedsPacketHeaderBytes, HasFewBlocks, segment_bytes, BeginsPacket}
 use Rattle.codestream_model.specs.Codestream.{WalkRefusal, TooManyFrames, IsPsotRight, RefusesEoc, NeedsEocBytes, RefusesPacket}

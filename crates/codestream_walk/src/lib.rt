@@ -5,6 +5,7 @@ mod fault;
 mod input;
 mod judging;
 mod laws;
+mod next_header;
 mod pieces;
 mod progression;
 mod walk;

@@ -12,10 +12,11 @@ ghost use Rattle.scl_outside.specs.Events.{Event};
 
 use crate::fault::{Judged, PieceOut, WalkFault, WalkWhy};
 use crate::input::{INPUT_LIMIT, Input, Wider};
-use crate::judging::{Eoc, Header, judge_eoc, judge_packet};
+use crate::judging::{Eoc, judge_eoc};
+use crate::next_header::{Header, NextHeader};
 use crate::progression::Progression;
 use j2k_markers::{Head, HeadWhy, read_head};
-use packet_header::{Block, HeaderReader};
+use packet_header::Block;
 use precinct_geometry::{Geometry, Place};
 use scl_outside::Duct;
 use std::alloc::{AllocError, Global};
@@ -44,7 +45,7 @@ pub enum State {
 #[derive(Drop)]
 pub struct Pieces {
     input: Input,
-    reader: HeaderReader,
+    header: NextHeader,
     begun: Option<Progression>,
     state: State,
     /// How many whole codestreams were given.
@@ -76,7 +77,7 @@ impl Pieces {
     {
         Ok(Pieces {
             input: Input::new(alloc)?,
-            reader: HeaderReader::reserve(alloc, 65_536)?,
+            header: NextHeader::reserve(alloc)?,
             begun: None,
             state: State::Start,
             codestreams: 0,
@@ -133,7 +134,7 @@ impl Pieces {
     pub fn blocks(&self) -> &[Block]
         ensures { map block_of result.now ≡ self.now.blocks }
     {
-        self.reader.blocks()
+        self.header.reader.blocks()
     }
 
     /// The geometry of the last main header that was given, which needs that there was one.
@@ -224,12 +225,8 @@ impl Pieces {
         let Some(place) = begun.next() else {
             return self.judge_eoc();
         };
-        match judge_packet(
-            begun.geometry(),
-            place,
-            &mut self.reader,
-            self.input.bytes(),
-        ) {
+        let geometry = begun.geometry();
+        match self.header.judge(geometry, place, self.input.bytes()) {
             Header::Whole(used, body) => {
                 begun.advance();
                 self.input.give(used);

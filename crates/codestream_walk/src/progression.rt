@@ -5,16 +5,15 @@ ghost use Rattle.precinct_geometry.specs.Spans.{place_of};
 ghost use Rattle.codestream_walk.specs.Progressions.{IsNextPlace, after_packet};
 
 use j2k_markers::Head;
-use pcrl_order::Cursor;
+use pcrl_order::OrderWalk;
 use precinct_geometry::{Geometry, Place};
 use std::marker::Model;
 
 /// The geometry of an image and the next packet in the packet order.
 #[derive(Drop)]
 pub struct Progression {
-    geometry: Geometry,
-    /// The precinct of the next packet or, where none is to come, of the last one.
-    cursor: Cursor,
+    /// At the precinct of the next packet or, where none is to come, of the last one.
+    walk: OrderWalk,
     /// Whether a packet is still to come.
     more: bool,
 }
@@ -25,9 +24,9 @@ impl Model for Progression {
 
     ghost Value = { Progress };
 
-    ghost view = { λ p. record { head = p.geometry; places = places_from p.more p.geometry p.cursor } };
+    ghost view = { λ p. record { head = p.walk.head; places = places_from p.more p.walk.head p.walk.place } };
 
-    ghost invariant = { λ p. IsPrecinct p.geometry p.cursor };
+    ghost invariant = { λ p. IsPrecinct p.walk.head p.walk.place };
 }
 
 impl Progression {
@@ -38,19 +37,15 @@ impl Progression {
     {
         head.is_within_limits();
         let geometry = Geometry::new(head);
-        let cursor = Cursor::first(&geometry);
-        Progression {
-            geometry,
-            cursor,
-            more: true,
-        }
+        let walk = OrderWalk::new(geometry);
+        Progression { walk, more: true }
     }
 
     /// The geometry of the image.
     pub fn geometry(&self) -> &Geometry
         ensures { result.now ≡ self.now.head }
     {
-        &self.geometry
+        self.walk.geometry()
     }
 
     /// The precinct of the next packet, or None where EOC is next.
@@ -59,7 +54,7 @@ impl Progression {
         ensures none { IsNone result → self.now.places ≡ [] }
     {
         if self.more {
-            Some(self.cursor.place())
+            Some(self.walk.place())
         } else {
             None
         }
@@ -70,6 +65,6 @@ impl Progression {
         requires { 1 ≤ length self.old.places }
         ensures { self.new ≡ after_packet self.old }
     {
-        self.more = self.cursor.advance(&self.geometry);
+        self.more = self.walk.advance();
     }
 }

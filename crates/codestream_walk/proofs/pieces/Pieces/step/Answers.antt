@@ -1,8 +1,21 @@
-use Rattle.std.proofs.Common.{[], ◌∷◌, ◌++◌, refl, sym, ◌∙◌, ap}
+use Rattle.std.proofs.Common.{ℕ, [], ◌∷◌, ◌++◌, map, refl, sym, ◌∙◌, ap, subst}
 use Rattle.scl_outside.specs.Events.{Took, Ended, ReadFailed}
-use Rattle.codestream_walk.specs.Walking.{Seen, reach}
+use Rattle.precinct_geometry.specs.Spans.{place_of}
+use Rattle.packet_header.specs.Answers.{block_of}
+use Rattle.codestream_walk.specs.InHand.{InHand}
+use Rattle.codestream_walk.specs.Staging.{stage_of}
+use Rattle.codestream_walk.specs.Walking.{Seen, reach, IsSound}
+use Rattle.codestream_walk.proofs.NextReads.{next_read_on}
 use Rattle.codestream_walk.proofs.Stepping.{IsOpen, shows_none, fed_view, fed_none, stepping_more, stepped_end, stepped_limit, stepped_fault}
 use Rattle.codestream_walk.proofs.pieces.Pieces.step.Goals as goal
+
+pub invariant_of-self : goal.invariant_of-self
+invariant_of-self g c =
+    let i = c.self.inside in
+    let m = c.in-Grown.ensures in
+    let P : ℕ → Type 0 = λ o. IsSound (stage_of i.state i.begun (place_of i.place) (map block_of i.header.reader.blocks) i.size i.left) i.codestreams o in
+    let sound = subst P (sym (ap (λ (j : InHand). j.offset) m.3)) c.self.invariant.1 in
+    (c.self.invariant.0, sound, c.self.invariant.2, next_read_on i.input c.more.new.self m.0 i.state i.begun i.header.fed i.header.reader m.3 c.self.invariant.3)
 
 pub loop-out-preserved : goal.loop-out-preserved
 loop-out-preserved g c =
