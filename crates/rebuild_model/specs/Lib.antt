@@ -1,0 +1,5 @@
+pub mod Stripping
+pub mod StrippingLaws
+pub mod Rebuilding
+pub mod RebuildingLaws
+pub mod HeaderLaws
