@@ -4,3 +4,7 @@ pub mod Adding
 pub mod Walking
 pub mod HeaderAndPackets
 pub mod Accepted
+pub mod DrawSteps
+pub mod DrawnRuns
+pub mod PlanLayout
+pub mod Generated

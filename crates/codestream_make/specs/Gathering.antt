@@ -1,5 +1,5 @@
 -- The bytes of a codestream that were gathered so far.
-use Rattle.std.specs.Prelude.{◌≡◌, ◌<◌, ◌+◌, ◌/◌, ◌%◌, ◌++◌, ℕ, true, false, List, [], ◌∷◌, length, slice_set}
+use Rattle.std.specs.Prelude.{◌≡◌, ◌<◌, ◌+◌, ◌/◌, ◌%◌, ◌++◌, ℕ, true, false, List, [], ◌∷◌, length, slice_set, Result, OnOk}
 use Rattle.codestream_model.specs.Values.{Head}
 use Rattle.codestream_model.specs.MainHeader.{SpellsHead}
 use Rattle.codestream_model.specs.Packet.{Content}
@@ -12,6 +12,10 @@ use Rattle.codestream_make.specs.declared.gathered.Gathered.{Gathered}
 pub record HasGathered (g : Gathered) (all : List ℕ) : Type 0 where
   pub fits : g.is_too_long ≡ false → g.bytes.items ≡ all
   pub long : g.is_too_long ≡ true → 268435456 < length all
+
+-- Where the answer is Ok, these bytes were added after all others.
+abbrev pub Adds : {T E : Type 0} → Result T E → Gathered → List ℕ → Gathered → Type 0
+Adds result old more new = (all : List ℕ) → HasGathered old all → OnOk result (HasGathered new (all ++ more))
 
 -- The bytes that were gathered are a main header, the packets of its image that have these contents, and EOC.
 pub record Gathers (header : List ℕ) (contents : List Content) (g : Gathered) : Type 0 where

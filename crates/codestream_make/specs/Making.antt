@@ -1,8 +1,10 @@
 -- The codestream that is made of a plan.
 use Rattle.std.specs.Prelude.{◌≡◌, ◌<◌, ◌≤◌, ◌++◌, ℕ, List, [], ◌∷◌, length, map}
-use Rattle.codestream_model.specs.Values.{Head, Place}
+use Rattle.codestream_model.specs.Values.{Head, Place, Block}
 use Rattle.codestream_model.specs.MainHeader.{SpellsHead}
 use Rattle.codestream_model.specs.Packet.{Content, SpellsPacket}
+use Rattle.codestream_model.specs.Precincts.{grids}
+use Rattle.codestream_model.specs.MarkedHeader.{written_marked_header}
 use Rattle.codestream_model.specs.PacketOrder.{packet_order}
 use Rattle.codestream_model.specs.Codestream.{SpellsCodestream, joined}
 use Rattle.trial_model.specs.Generator.{packet_of, packets_of, psot_of}
@@ -24,6 +26,18 @@ contents_of plan = map content_of plan.content.items
 -- their segments have as many bytes as there are, and header and packet aren't too long.
 abbrev pub Fits : Head → Place → Content → Type 0
 Fits h p x = SpellsPacket h p x (packet_of h p x)
+
+-- The packet header that our writer gives a precinct with these code-blocks, with its EPH.
+abbrev pub header_for : Head → Place → List Block → List ℕ
+header_for h p blocks = written_marked_header (grids h p) h.eph blocks
+
+-- No bytes make a packet of the precinct with these code-blocks.
+abbrev pub NoneFit : Head → Place → List Block → Type 0
+NoneFit h p blocks = (bytes : List ℕ) → Fits h p (record { blocks = blocks; bytes = bytes }) → ⊥
+
+-- The packets of an image's precincts with these contents, one after another.
+abbrev pub packet_bytes : Head → List Content → List ℕ
+packet_bytes h contents = joined (packets_of h (packet_order h) contents)
 
 -- There is a content for each of these precincts, and it fits.
 abbrev pub AllFit : Head → List Place → List Content → Type 0

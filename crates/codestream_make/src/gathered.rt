@@ -17,7 +17,7 @@ pub struct Gathered {
 }
 
 impl Gathered {
-    ghost use Rattle.codestream_make.specs.Gathering.{HasGathered};
+    ghost use Rattle.codestream_make.specs.Gathering.{HasGathered, Adds};
 
     /// The bytes of a main header.
     pub fn new(header: Vec<u8>) -> Gathered
@@ -33,7 +33,7 @@ impl Gathered {
 
     /// Adds bytes at the end, unless they would be too many with those before.
     pub fn add(&mut self, more: &[u8]) -> Result<(), AllocError>
-        ensures { (all : List ℕ) → HasGathered self.old all → OnOk result (HasGathered self.new (all ++ more.now)) }
+        ensures { Adds result self.old more.now self.new }
     {
         if self.is_too_long || more.len() > MOST_BYTES - self.bytes.len() {
             self.is_too_long = true;

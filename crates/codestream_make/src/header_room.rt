@@ -1,7 +1,6 @@
 //! Room for one packet header, into which it is written before its packet is added.
 ghost use Rattle.std.specs.Prelude.{◌≡◌, ◌≤◌, ℕ, List, IfOk, IfErr, Err, length, map, take};
-ghost use Rattle.codestream_model.specs.Precincts.{IsPrecinct, grids};
-ghost use Rattle.codestream_model.specs.MarkedHeader.{written_marked_header};
+ghost use Rattle.codestream_model.specs.Precincts.{IsPrecinct};
 ghost use Rattle.codestream_model.specs.Packet.{HasFewBlocks, SpellsPacketHeader};
 ghost use Rattle.precinct_geometry.specs.Spans.{place_of};
 ghost use Rattle.packet_header.specs.Answers.{block_of};
@@ -36,7 +35,7 @@ pub struct HeaderRoom {
 impl HeaderRoom {
     ghost use Rattle.codestream_make.specs.declared.fault.MakeFault.TheVariants as fault;
     ghost use Rattle.codestream_make.specs.Faults.{IsOfContents};
-    ghost use Rattle.codestream_make.specs.Making.{Fits};
+    ghost use Rattle.codestream_make.specs.Making.{header_for, NoneFit};
 
     /// Room for a packet header. `AllocError` where memory ran out.
     pub fn new(alloc: Global) -> Result<HeaderRoom, AllocError> {
@@ -56,11 +55,14 @@ impl HeaderRoom {
     ) -> Result<usize, MakeFault>
         requires { IsPrecinct geometry.now (place_of place) }
         ensures within { IfOk result (λ n. n ≤ 65538) }
-        ensures size { IfOk result (λ n. n ≡ length (written_marked_header (grids geometry.now (place_of place)) geometry.now.eph (map block_of blocks.now))) }
+        ensures size { IfOk result (λ n. n ≡ length (header_for geometry.now (place_of place) (map block_of blocks.now))) }
         ensures few { IfOk result (λ n. HasFewBlocks geometry.now (place_of place)) }
-        ensures written { IfOk result (λ n. take n self.new.buf.items ≡ written_marked_header (grids geometry.now (place_of place)) geometry.now.eph (map block_of blocks.now)) }
-        ensures spelled { IfOk result (λ n. SpellsPacketHeader geometry.now (place_of place) (map block_of blocks.now) (written_marked_header (grids geometry.now (place_of place)) geometry.now.eph (map block_of blocks.now))) }
-        ensures content { result ≡ Err fault.Content → (bytes : List ℕ) → Fits geometry.now (place_of place) (record { blocks = map block_of blocks.now; bytes = bytes }) → ⊥ }
+        ensures written { IfOk result (λ n. take n self.new.buf.items
+            ≡ header_for geometry.now (place_of place) (map block_of blocks.now)) }
+        ensures spelled { IfOk result (λ n. SpellsPacketHeader geometry.now (place_of place)
+            (map block_of blocks.now) (header_for geometry.now (place_of place) (map block_of blocks.now))) }
+        ensures content { result ≡ Err fault.Content
+            → NoneFit geometry.now (place_of place) (map block_of blocks.now) }
         ensures faults { IfErr result IsOfContents }
     {
         if geometry.blocks(place) > MOST_BLOCKS {

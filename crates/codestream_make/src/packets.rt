@@ -45,8 +45,8 @@ pub struct Maker {
 impl Maker {
     ghost use Rattle.codestream_make.specs.declared.fault.MakeFault.TheVariants as fault;
     ghost use Rattle.codestream_make.specs.Faults.{IsOfContents};
-    ghost use Rattle.codestream_make.specs.Making.{content_of, Fits, AllFit};
-    ghost use Rattle.codestream_make.specs.Gathering.{HasGathered};
+    ghost use Rattle.codestream_make.specs.Making.{content_of, packet_bytes, Fits, AllFit};
+    ghost use Rattle.codestream_make.specs.Gathering.{HasGathered, Adds};
 
     /// With the bytes of a main header. `AllocError` where memory ran out.
     pub fn new(alloc: Global, gathered: Gathered) -> Result<Maker, AllocError>
@@ -67,8 +67,10 @@ impl Maker {
     ) -> Result<(), MakeFault>
         requires { IsPrecinct geometry.now (place_of place) }
         ensures fits { OnOk result (Fits geometry.now (place_of place) (content_of plan.now)) }
-        ensures gathered { (all : List ℕ) → HasGathered self.old.gathered all → OnOk result (HasGathered self.new.gathered (all ++ packet_of geometry.now (place_of place) (content_of plan.now))) }
-        ensures content { result ≡ Err fault.Content → Fits geometry.now (place_of place) (content_of plan.now) → ⊥ }
+        ensures gathered { Adds result self.old.gathered
+            (packet_of geometry.now (place_of place) (content_of plan.now)) self.new.gathered }
+        ensures content { result ≡ Err fault.Content
+            → Fits geometry.now (place_of place) (content_of plan.now) → ⊥ }
         ensures faults { IfErr result IsOfContents }
     {
         let len = self.room.put(geometry, place, &plan.blocks)?;
@@ -90,8 +92,10 @@ impl Maker {
         requires first { packet_order walk.head ≡ walk.place ∷ rest walk }
         requires precinct { IsPrecinct walk.head walk.place }
         ensures fits { OnOk result (AllFit walk.head (packet_order walk.head) (map content_of contents.now)) }
-        ensures gathered { (all : List ℕ) → HasGathered self.old.gathered all → OnOk result (HasGathered self.new.gathered (all ++ joined (packets_of walk.head (packet_order walk.head) (map content_of contents.now)))) }
-        ensures content { result ≡ Err fault.Content → AllFit walk.head (packet_order walk.head) (map content_of contents.now) → ⊥ }
+        ensures gathered { Adds result self.old.gathered
+            (packet_bytes walk.head (map content_of contents.now)) self.new.gathered }
+        ensures content { result ≡ Err fault.Content
+            → AllFit walk.head (packet_order walk.head) (map content_of contents.now) → ⊥ }
         ensures faults { IfErr result IsOfContents }
     {
         let mut walk = walk;

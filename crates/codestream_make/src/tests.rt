@@ -1,6 +1,8 @@
 //! Worked codestreams, made.
 ghost use Rattle.std.specs.Prelude.{◌≡◌, []};
 
+mod generated;
+
 use super::*;
 use arrayvec::ArrayVec;
 use j2k_markers::{HeadPlan, HeadWhy, PCRL};

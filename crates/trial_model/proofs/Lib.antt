@@ -1,4 +1,9 @@
-mod Drawing
+pub mod Drawing
+pub mod HeaderBits
+pub mod DrawnContents
+pub mod Precincts
+pub mod ShapeHeads
+pub mod MadePackets
 mod WorkedDraws
 mod WorkedTrials
 mod Trials

@@ -2,4 +2,5 @@ pub mod Draws
 pub mod Generator
 pub mod Trial
 pub mod DrawLaws
+pub mod GeneratorLaws
 pub mod TrialLaws

@@ -5,7 +5,9 @@
 #![tactic(auto)]
 
 mod draw_laws;
+mod generator_laws;
 mod trial_laws;
 
 pub use draw_laws::draws_are_within;
+pub use generator_laws::{drawn_contents_make_packets, shape_headers_are_accepted};
 pub use trial_laws::{delivered_are_within, trial_counts_what_is_received};
