@@ -2,3 +2,4 @@ pub mod Octets
 pub mod Turns
 pub mod Stays
 pub mod Lawful
+pub mod Promised

@@ -1,2 +1,3 @@
 pub mod SentInput
 pub mod PackJob
+pub mod PackedStreams

@@ -5,7 +5,7 @@ mod datagrams;
 mod laws;
 
 pub use datagrams::pack;
-pub use laws::sent_inputs_are_lawful;
+pub use laws::{packed_at_end, packed_so_far, sent_inputs_are_lawful, stream_is_packed};
 
 #[cfg(test)]
 mod tests;

@@ -16,7 +16,6 @@ use Rattle.sender_model.specs.Lead.{carried_bytes, LeavesOpen}
 use Rattle.codestream_walk.specs.InHand.{input_limit}
 use Rattle.codestream_walk.specs.Walking.{Seen, fed, reach}
 use Rattle.codestream_walk.specs.Reading.{StepGives, Fixes, Steps, Waits}
-use Rattle.codestream_walk.specs.declared.fault.WalkFault.{WalkFault}
 use Rattle.codestream_walk.specs.declared.fault.PieceOut.{PieceOut}
 use Rattle.codestream_walk.specs.declared.fault.PieceOut.TheVariants as piece
 use Rattle.packetiser.specs.Filled.{part}

@@ -1,7 +1,9 @@
 -- The payload that a sender is filling, what is put into it, and the Body that it makes.
 use Rattle.std.specs.Prelude.{◌≤◌, ◌<◌, ◌/◌, ◌^◌, ◌++◌, ℕ, min, Bool, true, false, List, [], length, Option, Some, None, IfSome}
+use Rattle.wire_model.specs.Rtp.{RtpFields, fixed_header}
 use Rattle.wire_model.specs.Payload.{BodyFields, Body}
 use Rattle.wire_model.specs.Datagram.{Datagram}
+use Rattle.scl_payload.specs.Writing.{body_header}
 use Rattle.stream_model.specs.Cut.{Plan, number_at, rtp_at, resolution_code}
 
 -- The bytes of a payload so far; the offset in it and the PID of the first packet that starts in it; and the lowest
@@ -48,6 +50,14 @@ filled_res levels (Some r) = resolution_code r levels
 abbrev pub filled_header : ℕ → ℕ → Option (ℕ × ℕ) → BodyFields
 filled_header eseq res None = record { res = res; eseq = eseq; ordb = false; pos = 0; pid = 0 }
 filled_header eseq res (Some m) = record { res = res; eseq = eseq; ordb = true; pos = m.0; pid = m.1 }
+
+-- The datagram with this RTP header and this payload header.
+abbrev pub datagram_with : RtpFields → List ℕ → List ℕ → List ℕ
+datagram_with rtp header payload = fixed_header rtp false false 0 ++ (header ++ payload)
+
+-- The bytes of the Body that a payload makes.
+abbrev pub body_bytes : RtpFields → ℕ → ℕ → Filling → List ℕ
+body_bytes rtp eseq levels f = datagram_with rtp (body_header (filled_header eseq (filled_res levels f.lowest) f.mark)) f.payload
 
 -- The Body that a payload makes, at a position of the stream.
 abbrev pub body_of : Plan → ℕ → ℕ → ℕ → Bool → Filling → Datagram

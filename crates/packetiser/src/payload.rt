@@ -3,7 +3,7 @@ ghost use Rattle.std.specs.Prelude.{◌≡◌, ◌≤◌, ◌<◌, ◌+◌, ◌+
 ghost use Rattle.wire_model.specs.Rtp.{fixed_header};
 ghost use Rattle.rtp_header.specs.Reading.{fields_of};
 ghost use Rattle.scl_payload.specs.Writing.{main_header, body_header};
-ghost use Rattle.packetiser.specs.Filling.{empty, put, put_eoc, filled_res, filled_header};
+ghost use Rattle.packetiser.specs.Filling.{empty, put, put_eoc, filled_res, filled_header, datagram_with, body_bytes};
 
 use rtp_header::{Rtp, write_rtp};
 use scl_payload::{BodyHead, resolution_code, write_body, write_main};
@@ -105,7 +105,7 @@ impl Payload {
     pub fn close(&mut self, rtp: &Rtp, eseq: u8, levels: u8)
         requires kind { rtp.now.kind < 128 }
         requires lowest { IfSome self.old.filling.lowest (λ r. r ≤ levels) }
-        ensures shown { self.new.shown ≡ fixed_header (fields_of rtp.now) false false 0 ++ (body_header (filled_header eseq (filled_res levels self.old.filling.lowest) self.old.filling.mark) ++ self.old.filling.payload) }
+        ensures shown { self.new.shown ≡ body_bytes (fields_of rtp.now) eseq levels self.old.filling }
         ensures emptied { self.new.filling ≡ empty }
     {
         let res = match self.lowest {
@@ -136,7 +136,7 @@ impl Payload {
         requires ordh { ordh ≤ 7 }
         requires few { length bytes.now ≤ 4096 }
         requires none { self.old.filling ≡ empty }
-        ensures shown { self.new.shown ≡ fixed_header (fields_of rtp.now) false false 0 ++ (main_header eseq ordh ++ bytes.now) }
+        ensures shown { self.new.shown ≡ datagram_with (fields_of rtp.now) (main_header eseq ordh) bytes.now }
         ensures emptied { self.new.filling ≡ empty }
     {
         self.put_eoc(bytes);
@@ -148,7 +148,7 @@ impl Payload {
     /// Writes the headers before the payload, after which it has no bytes.
     fn show(&mut self, rtp: &Rtp, header: &[u8; 8])
         requires kind { rtp.now.kind < 128 }
-        ensures shown { self.new.shown ≡ fixed_header (fields_of rtp.now) false false 0 ++ (header.now ++ self.old.filling.payload) }
+        ensures shown { self.new.shown ≡ datagram_with (fields_of rtp.now) header.now self.old.filling.payload }
         ensures emptied { self.new.filling ≡ record self.old.filling { payload = [] } }
     {
         let mut fixed = [0u8; 12];

@@ -26,6 +26,9 @@ scl carries JPEG 2000 codestreams over RTP. It reads standard input and writes s
                                   passes on MAX datagrams at most that come to LOCAL to 1 to 64 receivers, each with
                                   an address, a limit and a queue; ends after IDLE milliseconds of silence
   scl parse STAMP STEP            shows the packets of codestreams, with their timestamps
+  scl gen SEED W H C LEVELS 444|422|420 [rpcl] [eph]
+                                  writes a codestream of W by H samples and C components with drawn code-blocks: W and H
+                                  are 1 to 4096, C 1 to 4, LEVELS 0 to 15
   scl head                        shows the main header at the front of a codestream
   scl order                       shows the precincts of that header's image in packet order
   scl --help                      this page

@@ -1,5 +1,5 @@
 -- The words of a command, one by one.
-use Rattle.std.proofs.Common.{suc, zero, ◌≡◌, ◌<◌, ℕ, List, [], ◌∷◌, Some, length, refl, sym, ap, ◌∙◌, arith}
+use Rattle.std.proofs.Common.{suc, zero, ◌≡◌, ◌≤◌, ◌<◌, ℕ, drop, List, [], ◌∷◌, Some, length, refl, sym, ap, ◌∙◌, arith}
 use Rattle.std.specs.Prelude.{slice_get}
 use Rattle.scl_cli.specs.declared.command.Command.{Command}
 use Rattle.scl_cli.specs.declared.command.Verb.{Verb}
@@ -96,3 +96,23 @@ with_seven words v a b c d e f g (more, is) n first second third fourth fifth si
     let zeroth : slice_get words 0 ≡ Some (verb_word v) = ap (λ (l : List (List ℕ)). slice_get l 0) is in
     same_words words (verb_word v ∷ a ∷ b ∷ c ∷ d ∷ e ∷ f ∷ g ∷ []) n
     (at_eight words (verb_word v) a b c d e f g (record { zeroth = zeroth; first = first; second = second; third = third; fourth = fourth; fifth = fifth; sixth = sixth; seventh = seventh }))
+
+-- Words of which there are seven or more, by the first seven.
+pub with_six : (words : List (List ℕ)) (v : Verb) (a b c d e f : List ℕ) → Begins v words → 7 ≤ length words → slice_get words 1 ≡ Some a → slice_get words 2 ≡ Some b → slice_get words 3 ≡ Some c
+    → slice_get words 4 ≡ Some d → slice_get words 5 ≡ Some e → slice_get words 6 ≡ Some f → words ≡ verb_word v ∷ a ∷ b ∷ c ∷ d ∷ e ∷ f ∷ drop 7 words
+with_six [] v a b c d e f begin n first second third fourth fifth sixth = absurd (omega (arith, n))
+with_six (t ∷ []) v a b c d e f begin n first second third fourth fifth sixth = absurd (omega (arith, n))
+with_six (t ∷ q ∷ []) v a b c d e f begin n first second third fourth fifth sixth = absurd (omega (arith, n))
+with_six (t ∷ q ∷ r ∷ []) v a b c d e f begin n first second third fourth fifth sixth = absurd (omega (arith, n))
+with_six (t ∷ q ∷ r ∷ s ∷ []) v a b c d e f begin n first second third fourth fifth sixth = absurd (omega (arith, n))
+with_six (t ∷ q ∷ r ∷ s ∷ w ∷ []) v a b c d e f begin n first second third fourth fifth sixth = absurd (omega (arith, n))
+with_six (t ∷ q ∷ r ∷ s ∷ w ∷ x ∷ []) v a b c d e f begin n first second third fourth fifth sixth = absurd (omega (arith, n))
+with_six (t ∷ q ∷ r ∷ s ∷ w ∷ x ∷ y ∷ more) v a b c d e f (rest, is) n first second third fourth fifth sixth =
+    let zeroth : t ≡ verb_word v = cc in
+    let one : q ≡ a = cc in
+    let two : r ≡ b = cc in
+    let three : s ≡ c = cc in
+    let four : w ≡ d = cc in
+    let five : x ≡ e = cc in
+    let six : y ≡ f = cc in
+    rw (zeroth, one, two, three, four, five, six) refl

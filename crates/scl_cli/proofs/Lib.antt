@@ -8,4 +8,6 @@ pub mod SoFar
 pub mod Runs
 pub mod MachineSteps
 pub mod Reported
+pub mod Packed
 pub mod RelaySpelt
+pub mod GenSpelt

@@ -4,7 +4,7 @@ use Rattle.std.specs.Prelude.{slice_set, slice_index_or}
 use Rattle.std.proofs.lemmas.Bool.{eqb-true, eq-eqb}
 use Rattle.std.proofs.lemmas.List.{length-append, length-take}
 use Rattle.wire_model.specs.Receptions.{Reception, Arrived}
-use Rattle.wire_model.specs.LinkAnswers.{LinkAnswer, Sent, NotReady, Failed}
+use Rattle.wire_model.specs.LinkAnswers.{Sent, NotReady, Failed}
 use Rattle.wire_model.specs.Receptions as receptions
 use Rattle.scl_outside.specs.Meaning.{Parcel}
 use Rattle.scl_outside.specs.Events.{WireEvent, OnWire, Received, Offered, Bound, Joined, asks, wire_fails}

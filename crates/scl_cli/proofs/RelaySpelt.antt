@@ -1,10 +1,10 @@
 -- The words of a relay, receiver by receiver.
-use Rattle.std.proofs.Common.{◌≡◌, ◌≤◌, ◌<◌, ◌+◌, ◌^◌, ◌++◌, ℕ, zero, suc, Bool, true, false, List, [], ◌∷◌, Option, Some, None, length, drop, refl, sym, ◌∙◌, ap, subst, arith, append_assoc, length-append}
+use Rattle.std.proofs.Common.{◌≡◌, ◌≤◌, ◌<◌, ◌+◌, ◌++◌, ℕ, zero, suc, Bool, true, false, List, [], ◌∷◌, Some, None, length, drop, refl, sym, ◌∙◌, ap, subst, arith, append_assoc, length-append}
 use Rattle.std.specs.Prelude.{slice_get, decimal}
 use Rattle.std.specs.List.{AllByRecursion}
 use Rattle.std.proofs.lemmas.List.{append-nil}
 use Rattle.std.proofs.lemmas.Fmt.{decimal_injective}
-use Rattle.relay_job.specs.Settings.{Target, Settings, AreSettings, IsAddress, IsTarget}
+use Rattle.relay_job.specs.Settings.{Target, Settings, IsAddress, IsTarget}
 use Rattle.scl_cli.specs.declared.command.Command.{Command}
 use Rattle.scl_cli.specs.declared.command.Command.TheVariants.{Relay}
 use Rattle.scl_cli.specs.declared.command.Verb.TheVariants as verbs

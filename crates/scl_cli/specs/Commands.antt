@@ -1,14 +1,19 @@
 -- The grammar of a command line.
-use Rattle.std.specs.Prelude.{◌≡◌, ◌≤◌, ◌<◌, ◌^◌, ℕ, Bool, true, false, List, [], ◌∷◌, Option, Some, None, codes, decimal}
+use Rattle.std.specs.Prelude.{◌≡◌, ◌≤◌, ◌<◌, ◌^◌, ◌⊎◌, ◌==◌, ◌++◌, ℕ, Bool, true, false, List, [], ◌∷◌, Option, Some, None, codes, decimal, if◌then◌else◌}
 use Rattle.stream_model.specs.Cut.{IsPlan}
 use Rattle.stream_receiver.specs.declared.pick.Pick.{Pick}
 use Rattle.relay_job.specs.Settings.{Target, AreSettings}
 use Rattle.scl_cli.specs.declared.command.Command.{Command}
-use Rattle.scl_cli.specs.declared.command.Command.TheVariants.{Thin, Head, Order, Parse, Pack, Report, Relay, Deliver}
+use Rattle.scl_cli.specs.declared.command.Command.TheVariants.{Thin, Head, Order, Parse, Pack, Report, Relay, Deliver, Gen}
 use Rattle.scl_cli.specs.declared.command.Stamps.{Stamps}
 use Rattle.scl_cli.specs.declared.command.Verb.{Verb}
 use Rattle.deliver_job.specs.Positions.{IsList, list_word}
 use Rattle.scl_cli.specs.declared.command.Verb.TheVariants as verb
+use Rattle.trial_model.specs.GeneratorLaws.{IsShape}
+use Rattle.codestream_make.specs.declared.shape.Sub.{Sub}
+use Rattle.codestream_make.specs.declared.shape.Sub.TheVariants.{S444, S422, S420}
+use Rattle.gen_job.specs.declared.generation.Generation.{Generation}
+use Rattle.gen_job.specs.GenJob.{shape_of}
 
 -- The first word of a command.
 abbrev pub verb_word : Verb → List ℕ
@@ -20,6 +25,7 @@ verb_word verb.Pack = codes "pack"
 verb_word verb.Report = codes "report"
 verb_word verb.Relay = codes "relay"
 verb_word verb.Deliver = codes "deliver"
+verb_word verb.Gen = codes "gen"
 
 -- The ranges of a timestamp and of a step.
 pub record IsStamps (stamps : Stamps) : Type 0 where
@@ -54,6 +60,26 @@ abbrev pub target_words : List Target → List (List ℕ)
 target_words [] = []
 target_words (r ∷ targets) = r.address ∷ decimal r.limit ∷ decimal r.depth ∷ target_words targets
 
+-- The word of a chroma subsampling.
+abbrev pub sub_word : Sub → List ℕ
+sub_word S444 = codes "444"
+sub_word S422 = codes "422"
+sub_word S420 = codes "420"
+
+-- The words of the options: `rpcl` for the order RPCL, and `eph` for EPH markers.
+abbrev pub option_words : ℕ → Bool → List (List ℕ)
+option_words order eph = (if order == 2 then codes "rpcl" ∷ [] else []) ++ (if eph then codes "eph" ∷ [] else [])
+
+-- These words are the options for this order, which is RPCL or PCRL, and for EPH markers or none.
+pub record AreOptions (words : List (List ℕ)) (order : ℕ) (eph : Bool) : Type 0 where
+  pub known : (order ≡ 2) ⊎ (order ≡ 3)
+  pub are : words ≡ option_words order eph
+
+-- The ranges of what is asked of a generated codestream.
+pub record IsGeneration (g : Generation) : Type 0 where
+  pub seed : g.seed < 2 ^ 64
+  pub shape : IsShape (shape_of g)
+
 -- How a command is spelt: its first word, the other words, and the ranges of its values.
 pub record Form : Type 1 where
   pub verb : Verb
@@ -77,6 +103,13 @@ form (Pack p) = record {
 form (Report pick) = record { verb = verb.Report; values = decimal pick.kind ∷ source_word pick.source ∷ decimal pick.window ∷ []; IsInRange = IsPick pick }
 form (Relay s) = record { verb = verb.Relay; values = decimal s.max ∷ decimal s.idle ∷ s.local ∷ target_words s.targets; IsInRange = AreSettings s }
 form (Deliver list) = record { verb = verb.Deliver; values = list_word list ∷ []; IsInRange = IsList list }
+form (Gen g) = record {
+  verb = verb.Gen;
+  values =
+      decimal g.seed ∷ decimal g.width ∷ decimal g.height ∷ decimal g.components ∷ decimal g.levels ∷ sub_word g.sub
+      ∷ option_words g.order g.eph;
+  IsInRange = IsGeneration g;
+}
 
 -- The first word of a command, as a name.
 abbrev pub verb_of : Command → Verb

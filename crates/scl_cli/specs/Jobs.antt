@@ -1,13 +1,14 @@
 -- What each command is to do.
 use Rattle.scl_run.specs.Job.{Job}
 use Rattle.scl_cli.specs.declared.command.Command.{Command}
-use Rattle.scl_cli.specs.declared.command.Command.TheVariants.{Thin, Head, Order, Parse, Pack, Report, Relay, Deliver}
+use Rattle.scl_cli.specs.declared.command.Command.TheVariants.{Thin, Head, Order, Parse, Pack, Report, Relay, Deliver, Gen}
 use Rattle.stream_receiver.specs.States.{pick_of}
 use Rattle.parse_job.specs.ParseJob.{parse_job}
 use Rattle.pack_job.specs.PackJob.{pack_job}
 use Rattle.report_job.specs.Job.{report_job}
 use Rattle.relay_job.specs.Job.{relay_job}
 use Rattle.deliver_job.specs.DeliverJob.{deliver_job}
+use Rattle.gen_job.specs.GenJob.{shape_of, gen_job}
 use Rattle.deliver_job.specs.Items.{ranges_of}
 use Rattle.scl_cli.specs.ThinJob.{thin_job}
 use Rattle.scl_cli.specs.HeaderJobs.{head_job, order_job}
@@ -22,3 +23,4 @@ job (Pack plan) = pack_job plan
 job (Report pick) = report_job (pick_of pick)
 job (Relay settings) = relay_job settings
 job (Deliver list) = deliver_job (ranges_of list)
+job (Gen g) = gen_job (shape_of g) g.seed

@@ -10,4 +10,5 @@ pub mod Finding
 pub mod Showing
 pub mod Runs
 pub mod ReportPromise
+pub mod PackPromise
 pub mod MachineMeaning

@@ -6,6 +6,7 @@ ghost use Rattle.scl_cli.specs.Commands.{Spells, verb_word};
 
 use crate::Words;
 use crate::deliver::deliver_of;
+use crate::generation::gen_of;
 use crate::head::head_of;
 use crate::order::order_of;
 use crate::pack::pack_of;
@@ -14,6 +15,7 @@ use crate::relay::relay_of;
 use crate::report::report_of;
 use crate::thin::thin_of;
 use deliver_job::Positions;
+use gen_job::Generation;
 use packetiser::PackPlan;
 use relay_job::Settings;
 use stream_receiver::Pick;
@@ -37,6 +39,8 @@ pub enum Command {
     Relay(Settings),
     /// `deliver LIST`: write the frames of a capture at the listed positions.
     Deliver(Positions),
+    /// `gen SEED W H C LEVELS 444|422|420 [rpcl] [eph]`: write a generated codestream.
+    Gen(Generation),
 }
 
 /// The timestamps of codestreams: that of the first, and the step from one to the next, at least 1, modulo 2^32.
@@ -57,6 +61,7 @@ pub enum Verb {
     Report,
     Relay,
     Deliver,
+    Gen,
 }
 
 /// The command that a word begins.
@@ -73,6 +78,7 @@ fn verb_in(word: &str) -> Option<Verb>
         "report" => Some(Verb::Report),
         "relay" => Some(Verb::Relay),
         "deliver" => Some(Verb::Deliver),
+        "gen" => Some(Verb::Gen),
         _ => None,
     }
 }
@@ -94,5 +100,6 @@ pub fn command_of(words: &Words) -> Option<Command>
         Verb::Report => report_of(words),
         Verb::Relay => relay_of(words),
         Verb::Deliver => deliver_of(words),
+        Verb::Gen => gen_of(words),
     }
 }

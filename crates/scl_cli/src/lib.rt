@@ -3,6 +3,7 @@
 
 mod command;
 mod deliver;
+mod generation;
 mod head;
 mod head_lines;
 mod header_input;

@@ -7,6 +7,7 @@ ghost use Rattle.scl_cli.specs.Commands.{form, SpellsNothing};
 ghost use Rattle.scl_cli.specs.Jobs.{job};
 ghost use Rattle.scl_cli.specs.Runs.{Ran, Decided, MayLackMemory};
 ghost use Rattle.scl_cli.specs.ReportPromise.{ReportsStreams};
+ghost use Rattle.scl_cli.specs.PackPromise.{PacksStreams};
 
 use crate::Words;
 use crate::command::{Command, command_of};
@@ -14,6 +15,7 @@ use crate::head::show_head;
 use crate::order::show_order;
 use crate::thin::thin;
 use deliver_job::deliver;
+use gen_job::write_generated;
 use pack_job::pack;
 use parse_job::parse;
 use relay_job::relay;
@@ -37,6 +39,7 @@ fn perform<O: Outside>(alloc: Global, command: Command, out: &mut O) -> Ending
         Command::Report(pick) => report(alloc, pick, out),
         Command::Relay(settings) => relay(alloc, &settings, out),
         Command::Deliver(list) => deliver(alloc, list.items(), out),
+        Command::Gen(asked) => write_generated(alloc, asked, out),
     }
 }
 
@@ -55,6 +58,7 @@ pub fn run<O: Outside>(alloc: Global, words: &Words, out: &mut O) -> u8
     ensures decided { Decided words.now (O.meaning out.old) (O.meaning out.new) result }
     ensures memory { result ≡ 7 → MayLackMemory words.now (O.meaning out.old) (O.meaning out.new) }
     ensures report { ReportsStreams words.now (O.meaning out.old) (O.meaning out.new) result }
+    ensures pack { PacksStreams words.now (O.meaning out.old) (O.meaning out.new) result }
 {
     let Some(command) = command_of(words) else {
         out.note(b"scl: words\n");

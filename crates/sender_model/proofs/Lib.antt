@@ -5,5 +5,6 @@ mod Told
 mod Packed
 mod WorkedClosings
 mod WorkedSends
+mod WorkedLimits
 pub mod CarriedBytes
 pub mod Ahead

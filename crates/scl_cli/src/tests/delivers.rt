@@ -62,7 +62,7 @@ fn what_is_left_out_is_a_gap(rt: HostRuntime) -> Result<(), Fail> {
 }
 
 /// The datagrams of capture B from the number FFFFFE on.
-fn wrapping(alloc: Global) -> Result<Vec<u8>, Fail> {
+pub fn wrapping(alloc: Global) -> Result<Vec<u8>, Fail> {
     let mut capture = Vec::from_slice(alloc, &CAPTURE_B)?;
     for (i, at) in [2usize, 114, 226, 338, 450].iter().enumerate() {
         let number = 0xFF_FFFEu32.wrapping_add(i as u32) % 0x100_0000;
@@ -81,7 +81,7 @@ fn repeats_and_the_wrap_of_numbers_are_passed(rt: HostRuntime) -> Result<(), Fai
 }
 
 /// The codestream of capture B twice in ten frames, the second time with the stamp 3600.
-fn two_images(alloc: Global) -> Result<Vec<u8>, Fail> {
+pub fn two_images(alloc: Global) -> Result<Vec<u8>, Fail> {
     // Numbers 5 to 9, and the stamp 0x0E10.
     let later = [
         (5, 5),

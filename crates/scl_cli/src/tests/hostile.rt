@@ -24,7 +24,7 @@ const MAIN: [u8; 8] = [0xC4, 0x10, 0, 0, 0, 0, 0, 0];
 
 const BYTES: [u8; 8_981] = [0x5A; 8_981];
 
-fn joined(alloc: Global, parts: &[&[u8]]) -> Result<Vec<u8>, AllocError> {
+pub fn joined(alloc: Global, parts: &[&[u8]]) -> Result<Vec<u8>, AllocError> {
     let mut all = Vec::new(alloc);
     for part in parts {
         all.extend_from_slice(part)?;

@@ -24,3 +24,6 @@ deliver_of-requires c = rw c.in-Deliver.is at (begins _ _ _ c.get.ensures c.in_o
 
 pub pack_of-requires : goal.pack_of-requires
 pack_of-requires c = rw c.in-Pack.is at (begins _ _ _ c.get.ensures c.in_ok-verb_in.ensures.named)
+
+pub gen_of-requires : goal.gen_of-requires
+gen_of-requires c = rw c.in-Gen.is at (begins _ _ _ c.get.ensures c.in_ok-verb_in.ensures.named)

@@ -1,5 +1,5 @@
 use Rattle.std.proofs.Common.{◌≡◌, [], ◌∷◌, ◌++◌, refl, sym, subst, ◌∙◌, ap, length, arith}
-use Rattle.codestream_model.specs.Values.{Head, Place}
+use Rattle.codestream_model.specs.Values.{Head}
 use Rattle.codestream_model.specs.Precincts.{IsPrecinct}
 use Rattle.pcrl_order.specs.Later.{later}
 use Rattle.scl_outside.specs.Events.{Wrote, WriteFailed}

@@ -1,4 +1,4 @@
-use Rattle.std.proofs.Common.{◌≡◌, ◌∙◌, true, List, ℕ, sym, subst}
+use Rattle.std.proofs.Common.{◌∙◌, sym, subst}
 use Rattle.relay_job.specs.Settings.{IsAddress}
 use Rattle.scl_cli.proofs.RelaySpelt.{address_is}
 use Rattle.scl_cli.proofs.relay.add_target.Goals as goal

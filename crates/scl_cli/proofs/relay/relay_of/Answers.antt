@@ -1,4 +1,4 @@
-use Rattle.std.proofs.Common.{◌≤◌, length, arith}
+use Rattle.std.proofs.Common.{arith}
 use Rattle.scl_cli.proofs.RelaySpelt.{long_enough}
 use Rattle.scl_cli.proofs.relay.relay_of.Goals as goal
 

@@ -1,7 +1,8 @@
 use Rattle.std.proofs.Common.{◌≡◌, Some, None}
-use Rattle.scl_cli.specs.declared.command.Command.TheVariants.{Report}
+use Rattle.scl_cli.specs.declared.command.Command.TheVariants.{Pack, Report}
 use Rattle.scl_cli.proofs.Runs.{spells_nothing, ran, decided, wanted}
 use Rattle.scl_cli.proofs.Reported.{reported}
+use Rattle.scl_cli.proofs.Packed.{packed}
 use Rattle.scl_cli.proofs.top_call.run.Goals as goal
 
 pub returns-clause-ran : goal.returns-clause-ran
@@ -21,3 +22,9 @@ returns-clause-report g c = λ pick spells. reported _ pick _ _ _ _ _ _ (c.in-So
 
 pub returns-in_default-clause-report : goal.returns-in_default-clause-report
 returns-in_default-clause-report g c = λ pick spells. let e : None ≡ Some (Report pick) = c.in_default.ensures.all (Report pick) spells in absurd (cc)
+
+pub returns-clause-pack : goal.returns-clause-pack
+returns-clause-pack g c = λ plan spells. packed _ plan _ _ _ _ _ _ (c.in-Some.ensures.all _ spells) spells.0 c.finish.ensures.status c.perform-ending.ensures.1 c.finish.ensures.note
+
+pub returns-in_default-clause-pack : goal.returns-in_default-clause-pack
+returns-in_default-clause-pack g c = λ plan spells. let e : None ≡ Some (Pack plan) = c.in_default.ensures.all (Pack plan) spells in absurd (cc)
