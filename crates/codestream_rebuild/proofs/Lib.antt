@@ -1,0 +1,5 @@
+pub mod Strips
+pub mod Putting
+pub mod Filling
+pub mod Coming
+pub mod Opens
