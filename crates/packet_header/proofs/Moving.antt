@@ -12,6 +12,7 @@ use Rattle.packet_header.specs.Answers.{why_of}
 use Rattle.packet_header.specs.Moves.{HasGiven, all_of, bits_after, Went, IsStop, Moved, Moves, Gets, behind_answer}
 use Rattle.stuffed_bits.specs.declared.source.Source.{Source}
 use Rattle.packet_header.specs.declared.refusal.HeaderStop.{HeaderStop}
+use Rattle.packet_header.specs.declared.refusal.HeaderWhy.{HeaderWhy}
 use Rattle.packet_header.specs.declared.refusal.HeaderStop.TheVariants.{Need, Bad}
 use Rattle.packet_header.proofs.Sources.{taken_and_rest}
 
@@ -162,6 +163,10 @@ pub value_refused : {X Y : Type 0} (Z : Type 0) (first : List Bool → Read Y) (
     → new.piece.now ≡ old.piece.now → ((l : List Bool) → first l ≡ and_then (r l) k) → Gets r old new got → got ≡ Ok v → ((l : List Bool) → k v l ≡ Refused why) → Moves {Y = Z} first after old new (Err (Bad (why_of why)))
 value_refused Z first r k after old new got v why piece same a e none = λ before done s.
     moves_same {Z = Z} first (λ l. and_then (r l) k) after old new (Err (Bad (why_of why))) same (gets_refused Z r k after old new got v why piece a e none) before done s
+
+-- what is read after a refusal may be anything
+pub moves_bad : {X : Type 0} (Z : Type 0) (first after other : List Bool → Read X) (old new : Source) (why : HeaderWhy) → Moves {Y = Z} first after old new (Err (Bad why)) → Moves {Y = Z} first other old new (Err (Bad why))
+moves_bad Z first after other old new why a = λ before done s. ((a before done s).0, λ n. absurd (cc))
 
 -- a value that was got, and then a call that reads what follows it
 pub value_then : {X Y Z : Type 0} (first second third : List Bool → Read Y) (r : List Bool → Read X) (k : X → List Bool → Read Y) (old mid new : Source) (got : Result X HeaderStop) (v : X) (out : Result Z HeaderStop) → mid.piece.now ≡ old.piece.now → ((l : List Bool) → first l ≡ and_then (r l) k)

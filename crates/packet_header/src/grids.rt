@@ -10,7 +10,7 @@ use crate::block::{Block, Position};
 use crate::pieces::values;
 use crate::refusal::HeaderStop;
 use crate::source;
-use crate::step::Step;
+use crate::step::{Step, noted};
 use precinct_geometry::Grid;
 use stuffed_bits::Source;
 use tag_tree::Tree;
@@ -25,10 +25,38 @@ pub struct TagTrees {
 }
 
 /// Reads the values of a code-block from a step on, and keeps it.
-///
-/// It isn't inlined, so that `values` has one caller and is inlined there.
-#[inline(never)]
+#[inline(always)]
 fn keep_values(
+    from: Step,
+    step: &mut Step,
+    at: Position,
+    source: &mut Source<'_>,
+    blocks: &mut Vec<Block>,
+) -> Result<(), HeaderStop>
+    requires within { source.old.at ≤ length source.old.piece.now }
+    requires fits { Fits from source.old.bits.part }
+    requires of_block { IsOfBlock from }
+    requires room { vec_len blocks.old < vec_capacity blocks.old }
+    ensures read { KeepsBlock (seat_at at) from step.new source.old source.new
+        blocks.old.items blocks.new.items result }
+    ensures fits { FitsAt step.new source.new.bits.part result }
+    ensures within { source.new.at ≤ length source.new.piece.now }
+    ensures piece { source.new.piece.now ≡ source.old.piece.now }
+    ensures few { vec_len blocks.new ≤ vec_len blocks.old + 1 }
+    ensures kept { IfErr result (λ _. vec_len blocks.new ≡ vec_len blocks.old) }
+    ensures capacity { vec_capacity blocks.new ≡ vec_capacity blocks.old }
+{
+    let block = values(from, step, at, source)?;
+    *step = Step::Inclusion;
+    blocks.push_reserved(block);
+    Ok(())
+}
+
+/// Reads the values of a code-block from the step on at which the last piece ended, and keeps it.
+///
+/// It isn't inlined, since few code-blocks lie in two pieces.
+#[inline(never)]
+fn resume_values(
     step: &mut Step,
     at: Position,
     source: &mut Source<'_>,
@@ -47,10 +75,8 @@ fn keep_values(
     ensures kept { IfErr result (λ _. vec_len blocks.new ≡ vec_len blocks.old) }
     ensures capacity { vec_capacity blocks.new ≡ vec_capacity blocks.old }
 {
-    let block = values(step, at, source)?;
-    *step = Step::Inclusion;
-    blocks.push_reserved(block);
-    Ok(())
+    let from = *step;
+    keep_values(from, step, at, source, blocks)
 }
 
 impl TagTrees {
@@ -93,10 +119,9 @@ impl TagTrees {
         ensures kept { IfErr result (λ _. vec_len blocks.new ≡ vec_len blocks.old) }
         ensures capacity { vec_capacity blocks.new ≡ vec_capacity blocks.old }
     {
-        *step = Step::Planes;
-        let planes = source::planes(&mut self.planes, at.col, at.row, source)?;
-        *step = Step::Passes { planes };
-        keep_values(step, at, source, blocks)
+        let label = source::planes(&mut self.planes, at.col, at.row, source);
+        let planes = noted(label, Step::Planes, step)?;
+        keep_values(Step::Passes { planes }, step, at, source, blocks)
     }
 
     /// Reads the code-block at a position from a step on, and keeps it if it is included.
@@ -135,7 +160,7 @@ impl TagTrees {
                 self.read_planes(step, at, source, blocks)
             }
             Step::Planes => self.read_planes(step, at, source, blocks),
-            _ => keep_values(step, at, source, blocks),
+            _ => resume_values(step, at, source, blocks),
         }
     }
 

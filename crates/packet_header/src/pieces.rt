@@ -9,7 +9,7 @@ ghost use Rattle.packet_header.specs.Steps.{Fits, FitsBlock, IsOfBlock, ReadsFro
 use crate::block::{Block, Position};
 use crate::refusal::{HeaderStop, HeaderWhy};
 use crate::source;
-use crate::step::Step;
+use crate::step::{Step, noted};
 use stuffed_bits::Source;
 
 /// The least Lblock (T.800 B.10.7.1).
@@ -47,10 +47,10 @@ fn first_passes(known: Block, step: &mut Step, source: &mut Source<'_>) -> Resul
     ensures within { source.new.at ≤ length source.new.piece.now }
     ensures piece { source.new.piece.now ≡ source.old.piece.now }
 {
-    *step = Step::Passes {
+    let here = Step::Passes {
         planes: known.planes,
     };
-    if source::bit(source)? {
+    if noted(source::bit(source), here, step)? {
         return more_passes(known, step, source);
     }
     lblock(Block { passes: 1, ..known }, step, source)
@@ -67,10 +67,10 @@ fn more_passes(known: Block, step: &mut Step, source: &mut Source<'_>) -> Result
     ensures within { source.new.at ≤ length source.new.piece.now }
     ensures piece { source.new.piece.now ≡ source.old.piece.now }
 {
-    *step = Step::MorePasses {
+    let here = Step::MorePasses {
         planes: known.planes,
     };
-    if source::bit(source)? {
+    if noted(source::bit(source), here, step)? {
         return last_passes(known, step, source);
     }
     lblock(Block { passes: 2, ..known }, step, source)
@@ -87,10 +87,10 @@ fn last_passes(known: Block, step: &mut Step, source: &mut Source<'_>) -> Result
     ensures within { source.new.at ≤ length source.new.piece.now }
     ensures piece { source.new.piece.now ≡ source.old.piece.now }
 {
-    *step = Step::LastPasses {
+    let here = Step::LastPasses {
         planes: known.planes,
     };
-    let code = source::number(2, source)?;
+    let code = noted(source::number(2, source), here, step)?;
     if code != 0 {
         return Err(HeaderStop::Bad(HeaderWhy::Passes));
     }
@@ -108,11 +108,11 @@ fn lblock(known: Block, step: &mut Step, source: &mut Source<'_>) -> Result<Bloc
     ensures within { source.new.at ≤ length source.new.piece.now }
     ensures piece { source.new.piece.now ≡ source.old.piece.now }
 {
-    *step = Step::Lblock {
+    let here = Step::Lblock {
         planes: known.planes,
         passes: known.passes,
     };
-    let ones = source::run(true, MOST_ONES, source)?;
+    let ones = noted(source::run(true, MOST_ONES, source), here, step)?;
     if ones >= MOST_ONES {
         return Err(HeaderStop::Bad(HeaderWhy::LengthBits));
     }
@@ -136,12 +136,12 @@ fn cleanup(
     ensures within { source.new.at ≤ length source.new.piece.now }
     ensures piece { source.new.piece.now ≡ source.old.piece.now }
 {
-    *step = Step::Cleanup {
+    let here = Step::Cleanup {
         planes: known.planes,
         passes: known.passes,
         lblock,
     };
-    let length = source::number(lblock, source)?;
+    let length = noted(source::number(lblock, source), here, step)?;
     if length < LEAST_CLEANUP {
         return Err(HeaderStop::Bad(HeaderWhy::CleanupShort));
     }
@@ -181,13 +181,14 @@ fn refine(
     if known.passes <= 1 {
         return Ok(Block { refine: 0, ..known });
     }
-    *step = Step::Refine {
+    let here = Step::Refine {
         planes: known.planes,
         passes: known.passes,
         lblock,
         cleanup: known.cleanup,
     };
-    let length = source::number(refine_bits(known.passes, lblock), source)?;
+    let width = refine_bits(known.passes, lblock);
+    let length = noted(source::number(width, source), here, step)?;
     if length >= REFINE_END {
         return Err(HeaderStop::Bad(HeaderWhy::RefineLong));
     }
@@ -197,13 +198,18 @@ fn refine(
     })
 }
 
-/// Reads the values of a code-block from a step on, and keeps in it where the reading stops.
+/// Reads the values of a code-block from a step on, and notes the step where the reading stops.
 #[inline(always)]
-pub fn values(step: &mut Step, at: Position, source: &mut Source<'_>) -> Result<Block, HeaderStop>
+pub fn values(
+    from: Step,
+    step: &mut Step,
+    at: Position,
+    source: &mut Source<'_>,
+) -> Result<Block, HeaderStop>
     requires within { source.old.at ≤ length source.old.piece.now }
-    requires fits { Fits step.old source.old.bits.part }
-    requires of_block { IsOfBlock step.old }
-    ensures reads { ReadsFrom (seat_at at) step.old step.new source.old source.new result }
+    requires fits { Fits from source.old.bits.part }
+    requires of_block { IsOfBlock from }
+    ensures reads { ReadsFrom (seat_at at) from step.new source.old source.new result }
     ensures fits { FitsBlock step.new source.new.bits.part result }
     ensures within { source.new.at ≤ length source.new.piece.now }
     ensures piece { source.new.piece.now ≡ source.old.piece.now }
@@ -217,7 +223,7 @@ pub fn values(step: &mut Step, at: Position, source: &mut Source<'_>) -> Result<
         cleanup: 0,
         refine: 0,
     };
-    match *step {
+    match from {
         Step::Passes { planes } => first_passes(Block { planes, ..none }, step, source),
         Step::MorePasses { planes } => more_passes(Block { planes, ..none }, step, source),
         Step::LastPasses { planes } => last_passes(Block { planes, ..none }, step, source),

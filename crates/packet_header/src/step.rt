@@ -1,4 +1,8 @@
 //! How far a code-block's values were read.
+ghost use Rattle.std.specs.Prelude.{◌≡◌, IfErr};
+
+use crate::refusal::HeaderStop;
+
 /// The value that is read next, and those of the code-block that were read before it.
 #[derive(Clone, Copy, Debug, PartialEq, Eq)]
 pub enum Step {
@@ -36,4 +40,22 @@ pub enum Step {
         lblock: u8,
         cleanup: u32,
     },
+}
+
+/// Passes on the answer of a reading, and notes its step where it stopped.
+///
+/// Most readings don't stop, so that most steps are never written down.
+#[inline(always)]
+pub fn noted<T: Copy>(
+    answer: Result<T, HeaderStop>,
+    here: Step,
+    step: &mut Step,
+) -> Result<T, HeaderStop>
+    ensures same { result ≡ answer }
+    ensures noted { IfErr result (λ stop. step.new ≡ here) }
+{
+    if answer.is_err() {
+        *step = here;
+    }
+    answer
 }

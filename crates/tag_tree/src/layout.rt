@@ -34,13 +34,14 @@ pub fn cols_at(cols: u32, level: u32) -> u32
 /// The most levels that a tree has: those of 65,536 leaves in a row.
 pub const LEVELS: usize = 17;
 
-/// The numbers of nodes of the levels below each level.
-pub fn bases(cols: u32, rows: u32) -> [usize; LEVELS]
-    requires { cols * rows ≤ 65536 }
-    ensures { (level : ℕ) → level < 17 → slice_index result level ≡ base_of cols rows level }
+/// The numbers of nodes of the levels below each level, up to the root's.
+pub fn bases(cols: u32, rows: u32, root: u32) -> [usize; LEVELS]
+    requires small { cols * rows ≤ 65536 }
+    requires low { root ≤ 16 }
+    ensures { (level : ℕ) → level ≤ root → slice_index result level ≡ base_of cols rows level }
 {
     let mut bases = [0; LEVELS];
-    for level in 1..LEVELS {
+    for level in 1..root as usize + 1 {
         let below = level as u32 - 1;
         let nodes = width(cols, below) as usize * width(rows, below) as usize;
         bases[level] = bases[level - 1] + nodes;

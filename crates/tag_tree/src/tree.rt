@@ -37,7 +37,7 @@ pub struct Tree {
     pub(crate) rows: u32,
     /// The root's level, where the leaves have level 0.
     pub(crate) root: u32,
-    /// The places of the first nodes of each level.
+    /// The places of the first nodes of each level, up to the root's.
     bases: [usize; LEVELS],
     /// The labels of the nodes; without a `fill`, of those that were met.
     pub(crate) labels: Vec<u8>,
@@ -69,7 +69,7 @@ impl Model for Tree {
         × (length t.met.items ≡ nodes_of t.leaves)
         × (t.root ≤ 16)
         × (0 < t.cols → 0 < t.rows → t.root ≡ exponent (max t.cols t.rows))
-        × ((level : ℕ) → level < 17 → slice_index t.bases level ≡ base_of t.cols t.rows level) };
+        × ((level : ℕ) → level ≤ t.root → slice_index t.bases level ≡ base_of t.cols t.rows level) };
 }
 
 impl Tree {
@@ -88,7 +88,7 @@ impl Tree {
             cols: 0,
             rows: 0,
             root: 0,
-            bases: bases(0, 0),
+            bases: bases(0, 0, 0),
             labels: vec![in alloc; 0u8; nodes]?,
             met: vec![in alloc; false; nodes]?,
         })
@@ -109,7 +109,7 @@ impl Tree {
         } else {
             exponent_of(cols.max(rows))
         };
-        self.bases = bases(cols, rows);
+        self.bases = bases(cols, rows, self.root);
         let nodes = most_nodes(cols * rows);
         clear(&mut self.met, nodes);
     }

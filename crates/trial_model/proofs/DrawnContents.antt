@@ -1,6 +1,6 @@
 -- Drawn contents fit their precincts.
-use Rattle.std.proofs.Common.{◌≡◌, ◌≤◌, ◌<◌, ◌+◌, ◌*◌, ◌==◌, ◌&&◌, ◌||◌, ◌⊎◌, ◌++◌, if◌then◌else◌, ℕ, suc, Bool, true, false, List, [], ◌∷◌, length, map, refl, sym, ◌∙◌, ap, subst, inl, inr, arith}
-use Rattle.std.specs.List.{AllByRecursion, filter, flat_map, list_any, sum_by}
+use Rattle.std.proofs.Common.{◌≡◌, ◌≤◌, ◌+◌, ◌*◌, ◌⊎◌, ◌++◌, ℕ, Bool, true, false, List, [], ◌∷◌, length, map, refl, sym, ◌∙◌, ap, subst, inl, inr, arith}
+use Rattle.std.specs.List.{AllByRecursion, filter, flat_map}
 use Rattle.std.proofs.lemmas.Bool.{cases_Bool}
 use Rattle.std.proofs.lemmas.Bool.Decides.{eqb_tells}
 use Rattle.std.proofs.lemmas.List.{length-append}
@@ -15,9 +15,9 @@ use Rattle.codestream_model.specs.MarkedHeader.{SpellsMarkedHeader, written_mark
 use Rattle.codestream_model.specs.Packet.{Content, SpellsPacket, block_count, segment_bytes}
 use Rattle.codestream_model.proofs.OwnBands.{own_bands}
 use Rattle.codestream_model.proofs.SeatLemmas.{all-filter, stands_here}
-use Rattle.codestream_model.proofs.WrittenLemmas.{IsApart, AreApart, same_seat, grids_apart, apart-filter, stand_alone, StandAlone, written_is_header}
+use Rattle.codestream_model.proofs.WrittenLemmas.{IsApart, AreApart, grids_apart, apart-filter, stand_alone, StandAlone, written_is_header}
 use Rattle.codestream_model.proofs.PackingLemmas.{packing_packs}
-use Rattle.trial_model.specs.Draws.{draw, draw_bytes}
+use Rattle.trial_model.specs.Draws.{draw}
 use Rattle.trial_model.specs.Generator.{no_content, both, draw_refine, draw_included, draw_block, draw_content, packet_of}
 use Rattle.trial_model.proofs.Drawing.{draws_are_within}
 use Rattle.trial_model.proofs.HeaderBits.{IsSmall, IsShort, few_seats, header_short}

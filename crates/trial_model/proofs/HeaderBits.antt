@@ -1,5 +1,5 @@
 -- How many bits and bytes the packet header of a few code-blocks has.
-use Rattle.std.proofs.Common.{◌≡◌, ◌≤◌, ◌<◌, ◌+◌, ◌*◌, ◌-◌, ◌/◌, ◌==◌, ◌&&◌, ◌⊎◌, ◌^◌, ◌++◌, if◌then◌else◌, ℕ, zero, suc, max, min, Bool, true, false, List, [], ◌∷◌, length, map, replicate, refl, sym, ◌∙◌, ap, subst, inl, inr, arith}
+use Rattle.std.proofs.Common.{◌≡◌, ◌≤◌, ◌+◌, ◌*◌, ◌-◌, ◌/◌, ◌==◌, ◌&&◌, ◌⊎◌, ◌^◌, ◌++◌, if◌then◌else◌, ℕ, zero, suc, max, Bool, true, false, List, [], ◌∷◌, length, map, replicate, refl, sym, ap, subst, inl, inr, arith}
 use Rattle.std.specs.List.{AllByRecursion, filter, flat_map, range_with_len}
 use Rattle.std.proofs.lemmas.Bool.{cases_Bool, and_parts}
 use Rattle.std.proofs.lemmas.List.{length-append, length-map, length-replicate}
@@ -7,7 +7,7 @@ use Rattle.std.proofs.lemmas.List.FromFn.{length-range_with_len}
 use Rattle.codestream_model.specs.Values.{Grid, Block}
 use Rattle.codestream_model.specs.StuffedBits.{number_bits}
 use Rattle.codestream_model.specs.TagTrees.{Seat, Labels, seats, seat_of, root_level, levels_from, label, parent_label, met_first, is_first, inclusion_bits, value_steps, exponent, least, least_planes, is_below}
-use Rattle.codestream_model.specs.HeaderPieces.{Piece, InclusionPiece, PlanesPiece, PassesPiece, LblockPiece, CleanupPiece, RefinePiece, passes_code, piece_bits, bits_of, Choices, refine_width, block_pieces, seat_pieces, header_pieces, stands_at}
+use Rattle.codestream_model.specs.HeaderPieces.{Piece, InclusionPiece, PlanesPiece, PassesPiece, LblockPiece, CleanupPiece, RefinePiece, passes_code, bits_of, refine_width, block_pieces, seat_pieces, header_pieces, stands_at}
 use Rattle.codestream_model.specs.PacketHeader.{least_lblock, first_lblock, lblock_at, least_choices, written_bits, written_header}
 use Rattle.codestream_model.proofs.TreeLemmas.{equal_number}
 use Rattle.codestream_model.proofs.StopLemmas.{bits_of-append}

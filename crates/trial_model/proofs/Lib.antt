@@ -8,3 +8,5 @@ mod WorkedDraws
 mod WorkedTrials
 mod Trials
 mod WorkedPacks
+pub mod GeneratedParts
+pub mod SentTrials

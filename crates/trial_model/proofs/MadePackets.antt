@@ -1,8 +1,7 @@
 -- What is drawn for a shape makes packets, and not too many bytes of them.
-use Rattle.std.proofs.Common.{◌≡◌, ◌≤◌, ◌<◌, ◌+◌, ◌*◌, ◌++◌, ℕ, List, [], ◌∷◌, length, refl, sym, ◌∙◌, ap, subst, arith}
-use Rattle.std.specs.List.{All, AllByRecursion, Contains, flat_map}
+use Rattle.std.proofs.Common.{◌≤◌, ◌*◌, ℕ, List, [], ◌∷◌, length, arith}
+use Rattle.std.specs.List.{AllByRecursion, flat_map}
 use Rattle.std.proofs.lemmas.List.{length-append}
-use Rattle.std.proofs.lemmas.List.Elements.{All-weaker}
 use Rattle.codestream_model.specs.Values.{Head, Place}
 use Rattle.codestream_model.specs.Precincts.{IsPrecinct, grids}
 use Rattle.codestream_model.specs.PacketOrder.{packet_order, IsPacketOrder}
@@ -18,7 +17,7 @@ use Rattle.trial_model.proofs.Precincts.{IsPlain, small_grids, few_places}
 use Rattle.trial_model.proofs.ShapeHeads.{shape_headers_are_accepted, plain_head}
 
 -- The packets of precincts, as they are drawn.
-all_drawn : (h : Head) (places : List Place) (state : ℕ) → IsPlain h → AllByRecursion (IsPrecinct h) places
+pub all_drawn : (h : Head) (places : List Place) (state : ℕ) → IsPlain h → AllByRecursion (IsPrecinct h) places
     → AllArePackets h places (draw_contents h places state).value × (length (joined (packets_of h places (draw_contents h places state).value)) ≤ length places * 3640)
 unfolding draw_contents
 all_drawn h [] state plain each = (tt, omega arith)

@@ -1,16 +1,15 @@
 -- The precincts of a generated picture: how many there are, and that their grids are small.
-use Rattle.std.proofs.Common.{◌≡◌, ◌≤◌, ◌<◌, ◌+◌, ◌-◌, ◌*◌, ◌/◌, ◌%◌, ◌^◌, ◌==◌, ◌⊎◌, ◌++◌, if◌then◌else◌, ℕ, zero, suc, min, max, Bool, true, false, List, [], ◌∷◌, length, map, replicate, refl, sym, ◌∙◌, ap, subst, inl, inr, arith}
+use Rattle.std.proofs.Common.{◌≡◌, ◌≤◌, ◌<◌, ◌+◌, ◌-◌, ◌*◌, ◌^◌, ◌==◌, ◌⊎◌, if◌then◌else◌, ℕ, zero, suc, min, Bool, true, false, List, [], ◌∷◌, length, replicate, refl, ◌∙◌, ap, inl, inr, arith}
 use Rattle.std.specs.Prelude.{slice_index_or, nat_le}
 use Rattle.std.specs.List.{AllByRecursion, flat_map, range_with_len}
 use Rattle.std.proofs.lemmas.Bool.{cases_Bool, ne_eqb, leb-true, leb-false}
-use Rattle.std.proofs.lemmas.Bool.Decides.{eqb_tells}
 use Rattle.std.proofs.lemmas.List.{length-append, length-map}
 use Rattle.std.proofs.lemmas.List.FromFn.{length-range_with_len}
 use Rattle.std.proofs.lemmas.Nat.{mul-le}
 use Rattle.std.proofs.Math.Nat.{pow-le-pow_right}
 use Rattle.codestream_model.specs.Values.{Pair, Head, Place, Grid}
-use Rattle.codestream_model.specs.Areas.{ceil_div, Span, step_of, image_area, component_area, resolution_area, divided, band_area}
-use Rattle.codestream_model.specs.Precincts.{precinct_exponents, strips, precinct_columns, precinct_rows, precinct_count, IsPrecinct, strip_x, strip_y, band_exponent, part, part_x, part_y, grid, grids}
+use Rattle.codestream_model.specs.Areas.{ceil_div, Span, step_of, resolution_area, band_area}
+use Rattle.codestream_model.specs.Precincts.{precinct_exponents, strips, precinct_columns, precinct_rows, precinct_count, IsPrecinct, strip_x, strip_y, band_exponent, part, part_x, part_y, grid}
 use Rattle.codestream_model.specs.PacketOrder.{sum_below, precincts_below, key, is_before, places_of, all_places, placed, sorted, packet_order}
 use Rattle.codestream_model.proofs.Anchors.{quotient_is_rounded_up}
 use Rattle.trial_model.proofs.HeaderBits.{IsSmall}

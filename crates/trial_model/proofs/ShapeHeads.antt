@@ -1,5 +1,5 @@
 -- The main header of a shape is accepted.
-use Rattle.std.proofs.Common.{◌≡◌, ◌≤◌, ◌<◌, ◌+◌, ◌-◌, ◌*◌, ◌/◌, ◌%◌, ◌^◌, ◌==◌, ◌&&◌, ◌||◌, ◌⊎◌, ◌++◌, if◌then◌else◌, ℕ, zero, suc, Bool, true, false, not, List, [], ◌∷◌, length, map, drop, replicate, refl, sym, ◌∙◌, ap, subst, inl, inr, arith, append_assoc}
+use Rattle.std.proofs.Common.{◌≡◌, ◌≤◌, ◌<◌, ◌+◌, ◌-◌, ◌*◌, ◌/◌, ◌%◌, ◌^◌, ◌==◌, ◌||◌, ◌⊎◌, ◌++◌, ℕ, zero, suc, Bool, true, false, not, List, [], ◌∷◌, length, map, drop, replicate, refl, sym, ◌∙◌, ap, subst, inl, inr, arith}
 use Rattle.std.specs.Prelude.{slice_index, slice_index_or, nat_le, nat_lt}
 use Rattle.std.specs.List.{AllByRecursion, flat_map, list_any, range_with_len}
 use Rattle.std.proofs.lemmas.Bool.{cases_Bool, ne_eqb, eq-eqb, eqb-true, le-ltb, lt-leb}
@@ -7,12 +7,12 @@ use Rattle.std.proofs.lemmas.List.{length-append, length-map, length-replicate, 
 use Rattle.std.proofs.lemmas.List.FromFn.{length-range_with_len}
 use Rattle.std.proofs.lemmas.Nat.{mul-le}
 use Rattle.codestream_model.specs.Values.{Pair, Head}
-use Rattle.codestream_model.specs.Areas.{ceil_div, step_of}
+use Rattle.codestream_model.specs.Areas.{ceil_div}
 use Rattle.codestream_model.specs.PacketOrder.{precincts_below}
-use Rattle.codestream_model.specs.Bytes.{two_bytes, four_bytes, two_at, four_at}
-use Rattle.codestream_model.specs.Segments.{SOC, SIZ, CAP, COD, QCD, COM, SOT, SOD, Segment, stated_length, segment_bytes, segments_bytes, stands, content_of}
-use Rattle.codestream_model.specs.SegmentTests.{xsiz, ysiz, xosiz, yosiz, xtsiz, ytsiz, xtosiz, ytosiz, csiz, siz_steps, is_empty, siz_tests, cap_tests, scod, cod_levels, cod_order, cod_precinct, cod_precincts, has_sizes, cod_tests, quant_style, quant_length, head_values, pids_end, has_great_pid, tile_tests}
-use Rattle.codestream_model.specs.MainHeader.{stands_once, is_main_marker, count_of, Passes, IsMainSegment, IsMainPart, IsTileStart, SpellsHead}
+use Rattle.codestream_model.specs.Bytes.{two_bytes}
+use Rattle.codestream_model.specs.Segments.{SOC, SIZ, CAP, COD, QCD, COM, SOT, SOD, Segment, stated_length, segment_bytes, segments_bytes}
+use Rattle.codestream_model.specs.SegmentTests.{xsiz, ysiz, xosiz, yosiz, xtsiz, ytsiz, xtosiz, ytosiz, csiz, siz_steps, is_empty, siz_tests, cap_tests, scod, cod_levels, cod_precinct, cod_precincts, has_sizes, cod_tests, head_values, pids_end, has_great_pid, tile_tests}
+use Rattle.codestream_model.specs.MainHeader.{stands_once, count_of, Passes, IsMainPart, IsTileStart}
 use Rattle.codestream_model.proofs.TestLists.{passes}
 use Rattle.codestream_model.proofs.SegmentBytes.{length-front, segments-push}
 use Rattle.trial_model.specs.Generator.{Shape, shape_step, step_bytes, siz_content, cod_content, qcd_content, com_content, sot_content, shape_segments, shape_header, shape_head}

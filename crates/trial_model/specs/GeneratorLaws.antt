@@ -1,11 +1,12 @@
 -- Laws of generated codestreams.
-use Rattle.std.specs.Prelude.{◌≡◌, ◌≤◌, ◌<◌, ◌^◌, ◌⊎◌, ◌++◌, ℕ, List, [], ◌∷◌, length}
+use Rattle.std.specs.Prelude.{◌≡◌, ◌≤◌, ◌<◌, ◌^◌, ◌⊎◌, ℕ, List, [], ◌∷◌, length}
 use Rattle.codestream_model.specs.Values.{Head, Place}
 use Rattle.codestream_model.specs.MainHeader.{SpellsHead}
 use Rattle.codestream_model.specs.PacketOrder.{packet_order}
 use Rattle.codestream_model.specs.Packet.{Content, SpellsPacket}
 use Rattle.codestream_model.specs.Codestream.{joined}
-use Rattle.trial_model.specs.Generator.{Shape, shape_head, shape_header, draw_contents, packet_of, packets_of}
+use Rattle.stream_model.specs.Stream.{ArePartsOf}
+use Rattle.trial_model.specs.Generator.{Shape, shape_head, shape_header, draw_contents, packet_of, packets_of, generated_parts, generated}
 
 -- A shape that may be asked for: 1 to 4096 samples each way, one to four components, steps of 1 or 2 for components 1 and 2, at
 -- most 15 decomposition levels, and RPCL or PCRL order.
@@ -43,3 +44,9 @@ pub record MakesPackets (shape : Shape) (seed : ℕ) : Type 0 where
 -- What is drawn for a shape that may be asked for makes packets.
 abbrev pub DrawnContentsMakePackets : Type 0
 DrawnContentsMakePackets = (shape : Shape) (seed : ℕ) → IsShape shape → MakesPackets shape seed
+
+-- The parts that are generated for a shape that may be asked for are those of the generated codestream.
+abbrev pub GeneratedHasParts : Type 0
+GeneratedHasParts =
+    (shape : Shape) (seed : ℕ) → IsShape shape
+    → ArePartsOf (generated_parts shape seed) (generated shape seed)

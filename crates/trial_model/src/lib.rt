@@ -9,5 +9,7 @@ mod generator_laws;
 mod trial_laws;
 
 pub use draw_laws::draws_are_within;
-pub use generator_laws::{drawn_contents_make_packets, shape_headers_are_accepted};
-pub use trial_laws::{delivered_are_within, trial_counts_what_is_received};
+pub use generator_laws::{
+    drawn_contents_make_packets, generated_has_parts, shape_headers_are_accepted,
+};
+pub use trial_laws::{delivered_are_within, trial_counts_what_is_received, trials_can_be_sent};

@@ -23,7 +23,7 @@ overflow_add-bases c =
     let ne = later c.loop-level.level is.low in
     let e = base_step c.args.cols c.args.rows c.loop-level.level ne in
     let b : base_of c.args.cols c.args.rows c.loop-level.level ≤ 2 * (c.args.cols * c.args.rows) + c.loop-level.level = base_small c.args.cols c.args.rows c.loop-level.level ne in
-    rw (is.each (c.loop-level.level - 1) (omega (arith, is.low)), c.width.ensures, c.width-in-loop-level.ensures, ← e) (omega (arith, b, c.requires))
+    rw (is.each (c.loop-level.level - 1) (omega (arith, is.low)), c.width.ensures, c.width-in-loop-level.ensures, ← e) (omega (arith, b, c.requires.small))
 
 pub loop-level-preserved : goal.loop-level-preserved
 loop-level-preserved c =

@@ -16,7 +16,7 @@ in_list c =
 -- and it stands where the definitions say
 holds : (c : goal.After-cols_at) → slice_index c.self.inside.bases c.args.level + c.args.row / 2 ^ c.args.level * c.cols_at.result + c.args.col / 2 ^ c.args.level ≡ place_of c.self.inside.cols c.self.inside.rows c.args.level c.args.col c.args.row
 holds c =
-    let low : c.args.level < 17 = omega (arith, c.requires.low, ap (λ (t : TreeState). t.root) c.self.view_is, c.self.invariant.4) in
+    let low : c.args.level ≤ c.self.inside.root = omega (arith, c.requires.low, ap (λ (t : TreeState). t.root) c.self.view_is) in
     let base : slice_index c.self.inside.bases c.args.level ≡ base_of c.self.inside.cols c.self.inside.rows c.args.level = c.self.invariant.6 c.args.level low in
     rw (base, c.cols_at.ensures) (omega arith)
 
