@@ -1,5 +1,5 @@
 pub mod Delivered
-mod Received
+pub mod Received
 mod WorkedDeliveries
 mod Picked
 mod WorkedReceptions

@@ -163,11 +163,11 @@ stream_is_packed p s t plan run =
     }
 
 -- the datagrams that the bytes read fix
-fixed_by : (p : Plan) (read : List ℕ) → IsBytes read → Closed p (counted read) (closed p (counted read))
+pub fixed_by : (p : Plan) (read : List ℕ) → IsBytes read → Closed p (counted read) (closed p (counted read))
 fixed_by p read are = closed_is_computed p (counted read) (bytes-take 1099511627776 read are)
 
 -- the lead of a payload and a packet header
-within_lead : (read carried room mtu : ℕ) → read < carried + room + 65537 → room ≡ mtu - 20 → mtu ≤ 4116 → read ≤ carried + 90000
+pub within_lead : (read carried room mtu : ℕ) → read < carried + room + 65537 → room ≡ mtu - 20 → mtu ≤ 4116 → read ≤ carried + 90000
 within_lead read carried room mtu ahead is few = omega (arith, ahead, is, few)
 
 pub packed_so_far : PackedSoFar

@@ -87,7 +87,7 @@ pub record Stepped (p : Plan) (s u : Meaning) (es : List Event) : Type 0 where
   pub so_far : AtReads (IsSoFar (pack_job p)) nothing es
 
 -- the sender of a step is that of the plan
-sends_by : (p : Plan) (v w : Packing) (t u : Meaning) (a : PackOut) (fs : List Event) (read : List ℕ) (given : List (List ℕ)) → v.plan ≡ p → Sender p read given v → Sends v t u a w fs → AtReads (Asks p read given) nothing fs × Answers p a (read ++ (effects fs).read) given w
+pub sends_by : (p : Plan) (v w : Packing) (t u : Meaning) (a : PackOut) (fs : List Event) (read : List ℕ) (given : List (List ℕ)) → v.plan ≡ p → Sender p read given v → Sends v t u a w fs → AtReads (Asks p read given) nothing fs × Answers p a (read ++ (effects fs).read) given w
 sends_by p v w t u a fs read given e is k =
     let S : Plan → Type 0 = λ q. Sender q read given v in
     let A : Plan → Type 0 = λ q. AtReads (Asks q read given) nothing fs × Answers q a (read ++ (effects fs).read) given w in
@@ -238,7 +238,7 @@ read_failed p s t u v w es fs so k =
     })
 
 -- what a refusal is, in the words of the job
-refuses_by : (p : Plan) (read : List ℕ) (given : List (List ℕ)) (r : Refusal) (why : SenderRefusal) (at : ℕ) → IsBytes read → r.at ≡ at → r.reason ≡ sender_reason why → RefusesAs p read given at why → RefusesToSend p read r
+pub refuses_by : (p : Plan) (read : List ℕ) (given : List (List ℕ)) (r : Refusal) (why : SenderRefusal) (at : ℕ) → IsBytes read → r.at ≡ at → r.reason ≡ sender_reason why → RefusesAs p read given at why → RefusesToSend p read r
 refuses_by p read given r why at bytes place is a =
     let R : List ℕ → Type 0 = λ l. SenderRefuses p l r.at why in
     let N : ℕ → Type 0 = λ n. SenderRefuses p read n why in
@@ -273,7 +273,7 @@ refused_over p s t u v w a es fs r so k reads refuses all =
     })
 
 -- only the input's end is noted as a cut
-why_cut : (why : WalkWhy) → reason_for (walk_refusal why) ≡ reason.Cut → why ≡ walk_why.Cut
+pub why_cut : (why : WalkWhy) → reason_for (walk_refusal why) ≡ reason.Cut → why ≡ walk_why.Cut
 why_cut walk_why.Cut e = refl
 why_cut (walk_why.Head w) e = absurd (cc)
 why_cut walk_why.TooManyBlocks e = absurd (cc)

@@ -1,60 +1,15 @@
--- Bytes put out one after another.
-use Rattle.std.proofs.Common.{◌≡◌, ◌<◌, ◌/◌, ◌%◌, ◌++◌, ℕ, zero, suc, List, [], ◌∷◌, refl, sym, ◌∙◌, ap, subst, append_assoc, arith, get_or, drop-cons, length-drop}
+-- Bytes in hexadecimal, and the lines of code-blocks one after another.
+use Rattle.std.proofs.Common.{◌≡◌, ◌<◌, ◌/◌, ◌%◌, ◌++◌, ℕ, zero, suc, List, [], ◌∷◌, refl, sym, ◌∙◌, ap, append_assoc, arith, get_or, drop-cons, length-drop}
 use Rattle.std.specs.Prelude.{slice_index, drop, take, length, ◌+◌, ◌≤◌}
 use Rattle.std.specs.List.{sum_by}
 use Rattle.std.proofs.lemmas.List.Sums.{sum_by-cons}
-use Rattle.scl_outside.specs.Meaning.{Meaning}
-use Rattle.scl_outside.specs.Events.{Event, Wrote, WriteFailed}
-use Rattle.scl_outside.specs.Effects.{HasPassed, nothing, only_written, written_until_failed, effects}
-use Rattle.scl_outside.specs.Steps.{Step}
 use Rattle.std.specs.Prelude.{Result, Ok, Err, IsOk, OnOk}
 use Rattle.std.proofs.lemmas.Grind.{flat_map-append}
-use Rattle.scl_outside.proofs.Traces.{trace_one, and_then-nothing, trace_join, effects_then, at_reads_then, has_passed}
-use Rattle.scl_outside.specs.declared.duct.PutOut.{PutOut}
-use Rattle.scl_outside.specs.declared.duct.PutOut.TheVariants.{Done, WriteFault}
 use Rattle.stream_model.specs.Report.{hex, hex_digit, block_line, block_lines}
 use Rattle.packet_header.specs.Answers.{block_of}
 use Rattle.packet_header.specs.declared.block.Block.{Block}
 use Rattle.precinct_report.specs.Lines.{blocks_of}
 use Rattle.hex.specs.Hex.{encode_with, encode_lower, lower_digits}
-use Rattle.scl_outside.specs.Writing.{Never, Puts}
-
-pub puts_nothing : (s : Meaning) → Puts [] s s Done []
-puts_nothing s = record { trace = refl; within = tt; gives = refl }
-
--- no write failed
-none_failed : HasPassed nothing
-none_failed = record { reads = refl; writes = refl; on_wire = refl }
-
-all_passed : (bytes : List ℕ) (es : List Event) → effects es ≡ only_written bytes → HasPassed (effects es)
-all_passed bytes es is = has_passed (effects es) (only_written bytes) is (record { reads = refl; writes = refl; on_wire = refl })
-
--- and then others
-pub puts_done : (a b : List ℕ) (s m t : Meaning) (es fs : List Event) → Puts a s m Done es → Puts b m t Done fs → Puts (a ++ b) s t Done (es ++ fs)
-puts_done a b s m t es fs p q = record {
-  trace = trace_join s m t es fs p.trace q.trace;
-  within = at_reads_then Never Never es fs p.within (all_passed a es p.gives) (λ f i. i) q.within;
-  gives = effects_then es fs _ _ p.gives q.gives;
-}
-
-pub puts_failed : (a b : List ℕ) (s m t : Meaning) (es fs : List Event) → Puts a s m Done es → Puts b m t WriteFault fs → Puts (a ++ b) s t WriteFault (es ++ fs)
-puts_failed a b s m t es fs p q = record {
-  trace = trace_join s m t es fs p.trace q.trace;
-  within = at_reads_then Never Never es fs p.within (all_passed a es p.gives) (λ f i. i) q.within;
-  gives = (a ++ q.gives.0, q.gives.1, ap (λ l. a ++ l) q.gives.2 ∙ sym (append_assoc a q.gives.0 q.gives.1), effects_then es fs _ _ p.gives q.gives.3);
-}
-
-pub puts_then : (a b : List ℕ) (s m t : Meaning) (r : PutOut) (es fs : List Event) → Puts a s m Done es → Puts b m t r fs → Puts (a ++ b) s t r (es ++ fs)
-puts_then a b s m t Done es fs p q = puts_done a b s m t es fs p q
-puts_then a b s m t WriteFault es fs p q = puts_failed a b s m t es fs p q
-
--- what follows a failed write stays out
-pub puts_front : (a b : List ℕ) (s t : Meaning) (es : List Event) → Puts a s t WriteFault es → Puts (a ++ b) s t WriteFault es
-puts_front a b s t es p = record {
-  trace = p.trace;
-  within = p.within;
-  gives = (p.gives.0, p.gives.1 ++ b, ap (λ l. l ++ b) p.gives.2 ∙ append_assoc p.gives.0 p.gives.1 b, p.gives.3);
-}
 
 -- a digit
 digit : (n : ℕ) → n < 16 → slice_index lower_digits n ≡ hex_digit n
@@ -86,17 +41,6 @@ hex_is (b ∷ bytes) h =
     let last = digit (b % 16) (omega arith) in
     let rest = hex_is bytes (λ i. h (suc i)) in
     ap (λ n. n ∷ slice_index lower_digits (b % 16) ∷ encode_lower bytes) high ∙ (ap (λ n. hex_digit (b / 16) ∷ n ∷ encode_lower bytes) last ∙ ap (λ l. hex_digit (b / 16) ∷ hex_digit (b % 16) ∷ l) rest)
-
--- one write
-pub puts_wrote : (bytes : List ℕ) (s t : Meaning) → Step s (Wrote bytes) t → Puts bytes s t Done (Wrote bytes ∷ [])
-puts_wrote bytes s t step = record { trace = trace_one s t (Wrote bytes) step; within = (tt, none_failed, tt); gives = and_then-nothing (only_written bytes) }
-
-pub puts_not : (bytes front rest : List ℕ) (s t : Meaning) → bytes ≡ front ++ rest → Step s (WriteFailed front) t → Puts bytes s t WriteFault (WriteFailed front ∷ [])
-puts_not bytes front rest s t e step = record { trace = trace_one s t (WriteFailed front) step; within = (tt, none_failed, tt); gives = (front, rest, e, and_then-nothing (written_until_failed front)) }
-
--- the same bytes
-pub puts_same : (a b : List ℕ) (s t : Meaning) (r : PutOut) (es : List Event) → a ≡ b → Puts a s t r es → Puts b s t r es
-puts_same a b s t r es e p = let P : List ℕ → Type 0 = λ l. Puts l s t r es in subst P e p
 
 pub on_ok : {A B : Type 0} (r : Result A B) (P : Type 0) → IsOk r → OnOk r P → P
 on_ok (Ok x) P i h = h

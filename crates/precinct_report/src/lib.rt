@@ -3,7 +3,7 @@
 #![tactic(auto)]
 
 mod lines;
-mod texts;
+mod page;
 mod writing;
 
 pub use lines::{Counts, write_end, write_precinct};

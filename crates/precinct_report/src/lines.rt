@@ -1,15 +1,15 @@
 //! The lines of a precinct and the END line.
-ghost use Rattle.std.specs.Prelude.{◌≡◌, ◌+◌, List, [], ◌∷◌, length};
+ghost use Rattle.std.specs.Prelude.{◌≡◌, ◌≤◌, ◌+◌, ◌++◌, List, [], ◌∷◌, length, codes};
 ghost use Rattle.std.specs.List.{sum_by};
 ghost use Rattle.stream_model.specs.Report as report;
 ghost use Rattle.packet_header.specs.Answers.{block_of};
 ghost use Rattle.scl_outside.specs.Events.{Event};
 ghost use Rattle.scl_outside.specs.Writing.{Puts};
 ghost use Rattle.precinct_report.specs.Lines.{precinct_of, counts_of, block_start, blocks_of};
+ghost use Rattle.precinct_report.specs.Gathering.{Gathers};
 
-use crate::texts::push_number;
-use crate::writing::{put, put_hex};
-use arrayvec::ArrayString;
+use crate::page::Page;
+use crate::writing::{gather_hex, make_room, put};
 use packet_header::{Block, Precinct};
 use scl_outside::{Duct, PutOut};
 
@@ -30,8 +30,8 @@ pub struct Counts {
     pub broken: u64,
 }
 
-/// Room for a line but for the digits of a code-block's bytes.
-type Line = ArrayString<256>;
+/// The greatest number of bytes of a line but for the digits of a code-block's bytes.
+const LINE: usize = 256;
 
 /// Writes the P line of a precinct and the B line of each of its code-blocks. The number of `bytes`
 /// is the sum of the cleanup and refinement lengths of `blocks`. `WriteFault` where a write failed;
@@ -42,11 +42,13 @@ pub fn write_precinct<D: Duct>(duct: &mut D, precinct: &Precinct<'_>) -> PutOut
         × Puts (report.lines (precinct_of precinct.now ∷ [])) (D.meaning duct.old) (D.meaning duct.new)
         result es }
 {
-    match put(duct, precinct_line(precinct).as_bytes()) {
+    let mut page = Page::new();
+    push_precinct(&mut page, precinct);
+    match gather_blocks(duct, &mut page, precinct.blocks, precinct.bytes) {
         PutOut::Done => {}
         PutOut::WriteFault => return PutOut::WriteFault,
     }
-    put_blocks(duct, precinct.blocks, precinct.bytes)
+    put(duct, page.text())
 }
 
 /// Writes the END line of these counts. `WriteFault` where a write failed; a prefix of the line
@@ -56,20 +58,22 @@ pub fn write_end<D: Duct>(duct: &mut D, counts: &Counts) -> PutOut
         × Puts (report.end_line (counts_of counts.now)) (D.meaning duct.old) (D.meaning duct.new)
         result es }
 {
-    put(duct, end_line(counts).as_bytes())
+    let mut page = Page::new();
+    push_end(&mut page, counts);
+    put(duct, page.text())
 }
 
-/// Writes the B lines of code-blocks, whose bytes follow each other.
-fn put_blocks<D: Duct>(duct: &mut D, blocks: &[Block], bytes: &[u8]) -> PutOut
+/// Gathers the B lines of code-blocks, whose bytes follow each other.
+fn gather_blocks<D: Duct>(duct: &mut D, page: &mut Page, blocks: &[Block], bytes: &[u8]) -> PutOut
     requires { length bytes.now ≡ sum_by (λ b. b.cleanup + b.refine) blocks.now }
     ensures { (es : List Event)
-        × Puts (report.block_lines (blocks_of blocks.now) bytes.now) (D.meaning duct.old) (D.meaning duct.new)
-        result es }
+        × Gathers (report.block_lines (blocks_of blocks.now) bytes.now)
+        (D.meaning duct.old) (D.meaning duct.new) page.old page.new result es }
 {
     let mut rest = bytes;
     for block in blocks {
         let (own, after) = rest.split_at(block.cleanup as usize + block.refine as usize);
-        match put_block(duct, block, own) {
+        match gather_block(duct, page, block, own) {
             PutOut::Done => {}
             PutOut::WriteFault => return PutOut::WriteFault,
         }
@@ -78,65 +82,68 @@ fn put_blocks<D: Duct>(duct: &mut D, blocks: &[Block], bytes: &[u8]) -> PutOut
     PutOut::Done
 }
 
-/// Writes the B line of a code-block with these bytes.
-fn put_block<D: Duct>(duct: &mut D, block: &Block, bytes: &[u8]) -> PutOut
+/// Gathers the B line of a code-block with these bytes.
+fn gather_block<D: Duct>(duct: &mut D, page: &mut Page, block: &Block, bytes: &[u8]) -> PutOut
     ensures { (es : List Event)
-        × Puts (report.block_line (block_of block.now) bytes.now) (D.meaning duct.old) (D.meaning duct.new)
-        result es }
+        × Gathers (report.block_line (block_of block.now) bytes.now)
+        (D.meaning duct.old) (D.meaning duct.new) page.old page.new result es }
 {
-    match put(duct, block_line(block).as_bytes()) {
+    match make_room(duct, page, LINE) {
         PutOut::Done => {}
         PutOut::WriteFault => return PutOut::WriteFault,
     }
-    match put_hex(duct, bytes) {
+    push_block(page, block);
+    match gather_hex(duct, page, bytes) {
         PutOut::Done => {}
         PutOut::WriteFault => return PutOut::WriteFault,
     }
-    put(duct, b"\n")
+    match make_room(duct, page, 1) {
+        PutOut::Done => {}
+        PutOut::WriteFault => return PutOut::WriteFault,
+    }
+    page.push(b"\n");
+    PutOut::Done
 }
 
-/// The P line of a precinct.
-fn precinct_line(precinct: &Precinct<'_>) -> Line
-    ensures { result.bytes ≡ report.precinct_line (precinct_of precinct.now) }
+/// Puts the P line of a precinct on an empty page.
+fn push_precinct(page: &mut Page, precinct: &Precinct<'_>)
+    requires { page.old ≡ [] }
+    ensures { page.new ≡ report.precinct_line (precinct_of precinct.now) }
 {
-    let mut line = Line::new();
-    push_number(&mut line, "P stamp=", u64::from(precinct.stamp));
-    push_number(&mut line, " pid=", u64::from(precinct.pid));
-    push_number(&mut line, " c=", u64::from(precinct.place.c));
-    push_number(&mut line, " r=", u64::from(precinct.place.r));
-    push_number(&mut line, " k=", u64::from(precinct.place.k));
-    push_number(&mut line, " blocks=", precinct.blocks.len() as u64);
-    line.push_str("\n");
-    line
+    page.push_number(b"P stamp=", u64::from(precinct.stamp));
+    page.push_number(b" pid=", u64::from(precinct.pid));
+    page.push_number(b" c=", u64::from(precinct.place.c));
+    page.push_number(b" r=", u64::from(precinct.place.r));
+    page.push_number(b" k=", u64::from(precinct.place.k));
+    page.push_number(b" blocks=", precinct.blocks.len() as u64);
+    page.push(b"\n");
 }
 
-/// The B line of a code-block up to the digits of its bytes.
-fn block_line(block: &Block) -> Line
-    ensures { result.bytes ≡ block_start (block_of block.now) }
+/// Appends the B line of a code-block up to the digits of its bytes.
+fn push_block(page: &mut Page, block: &Block)
+    requires { length page.old + 256 ≤ 4096 }
+    ensures { page.new ≡ page.old ++ block_start (block_of block.now) }
 {
-    let mut line = Line::new();
-    push_number(&mut line, "B band=", u64::from(block.band));
-    push_number(&mut line, " col=", u64::from(block.col));
-    push_number(&mut line, " row=", u64::from(block.row));
-    push_number(&mut line, " planes=", u64::from(block.planes));
-    push_number(&mut line, " passes=", u64::from(block.passes));
-    push_number(&mut line, " cleanup=", u64::from(block.cleanup));
-    push_number(&mut line, " refine=", u64::from(block.refine));
-    line.push_str(" bytes=");
-    line
+    page.push_number(b"B band=", u64::from(block.band));
+    page.push_number(b" col=", u64::from(block.col));
+    page.push_number(b" row=", u64::from(block.row));
+    page.push_number(b" planes=", u64::from(block.planes));
+    page.push_number(b" passes=", u64::from(block.passes));
+    page.push_number(b" cleanup=", u64::from(block.cleanup));
+    page.push_number(b" refine=", u64::from(block.refine));
+    page.push(b" bytes=");
 }
 
-/// The END line.
-fn end_line(counts: &Counts) -> Line
-    ensures { result.bytes ≡ report.end_line (counts_of counts.now) }
+/// Puts the END line on an empty page.
+fn push_end(page: &mut Page, counts: &Counts)
+    requires { page.old ≡ [] }
+    ensures { page.new ≡ report.end_line (counts_of counts.now) }
 {
-    let mut line = Line::new();
-    push_number(&mut line, "END kept=", counts.kept);
-    push_number(&mut line, " old=", counts.old);
-    push_number(&mut line, " refused=", counts.refused);
-    push_number(&mut line, " unsupported=", counts.unsupported);
-    push_number(&mut line, " disagreed=", counts.disagreed);
-    push_number(&mut line, " broken=", counts.broken);
-    line.push_str("\n");
-    line
+    page.push_number(b"END kept=", counts.kept);
+    page.push_number(b" old=", counts.old);
+    page.push_number(b" refused=", counts.refused);
+    page.push_number(b" unsupported=", counts.unsupported);
+    page.push_number(b" disagreed=", counts.disagreed);
+    page.push_number(b" broken=", counts.broken);
+    page.push(b"\n");
 }

@@ -1,14 +1,15 @@
-//! Bytes written as they are, and in hexadecimal.
-ghost use Rattle.std.specs.Prelude.{◌≡◌, ◌≤◌, ◌*◌, List, length};
+//! Text that is gathered on a page and written where the page is full.
+ghost use Rattle.std.specs.Prelude.{◌≡◌, ◌≤◌, ◌<◌, ◌+◌, ◌*◌, List, [], length};
 ghost use Rattle.stream_model.specs.Report as report;
 ghost use Rattle.scl_outside.specs.Events.{Event};
 ghost use Rattle.scl_outside.specs.Writing.{Puts};
+ghost use Rattle.precinct_report.specs.Gathering.{Gathers, HasRoomAfter};
 
-use hex::encode_to_slice;
+use crate::page::Page;
 use scl_outside::{Duct, PutOut, WriteOut};
 
-/// The greatest number of bytes that one write spells.
-const PART: usize = 512;
+/// The greatest number of bytes that are spelled at once.
+const PART: usize = 1024;
 
 /// Writes the bytes by one write.
 pub fn put<D: Duct>(duct: &mut D, bytes: &[u8]) -> PutOut
@@ -20,15 +21,34 @@ pub fn put<D: Duct>(duct: &mut D, bytes: &[u8]) -> PutOut
     }
 }
 
-/// Writes the bytes in hexadecimal, two lower-case digits each.
-pub fn put_hex<D: Duct>(duct: &mut D, bytes: &[u8]) -> PutOut
+/// Makes room for this number of bytes: writes the page where they don't fit.
+pub fn make_room<D: Duct>(duct: &mut D, page: &mut Page, bytes: usize) -> PutOut
+    requires { bytes ≤ 4096 }
+    ensures gathers { (es : List Event)
+        × Gathers [] (D.meaning duct.old) (D.meaning duct.new) page.old page.new result es }
+    ensures room { HasRoomAfter bytes page.new result }
+{
+    if page.has_room(bytes) {
+        return PutOut::Done;
+    }
+    match put(duct, page.text()) {
+        PutOut::Done => {}
+        PutOut::WriteFault => return PutOut::WriteFault,
+    }
+    page.clear();
+    PutOut::Done
+}
+
+/// Gathers bytes in hexadecimal, two lower-case digits each.
+pub fn gather_hex<D: Duct>(duct: &mut D, page: &mut Page, bytes: &[u8]) -> PutOut
     ensures { (es : List Event)
-        × Puts (report.hex bytes.now) (D.meaning duct.old) (D.meaning duct.new) result es }
+        × Gathers (report.hex bytes.now) (D.meaning duct.old) (D.meaning duct.new) page.old page.new
+        result es }
 {
     let mut rest = bytes;
     while !rest.is_empty() {
         let (part, after) = rest.split_at(rest.len().min(PART));
-        match put_digits(duct, part) {
+        match gather_part(duct, page, part) {
             PutOut::Done => {}
             PutOut::WriteFault => return PutOut::WriteFault,
         }
@@ -37,23 +57,17 @@ pub fn put_hex<D: Duct>(duct: &mut D, bytes: &[u8]) -> PutOut
     PutOut::Done
 }
 
-/// Writes at most `PART` bytes in hexadecimal, by one write.
-fn put_digits<D: Duct>(duct: &mut D, bytes: &[u8]) -> PutOut
-    requires { length bytes.now ≤ 512 }
+/// Gathers at most `PART` bytes in hexadecimal.
+fn gather_part<D: Duct>(duct: &mut D, page: &mut Page, bytes: &[u8]) -> PutOut
+    requires { length bytes.now ≤ 1024 }
     ensures { (es : List Event)
-        × Puts (report.hex bytes.now) (D.meaning duct.old) (D.meaning duct.new) result es }
+        × Gathers (report.hex bytes.now) (D.meaning duct.old) (D.meaning duct.new) page.old page.new
+        result es }
 {
-    let mut text = [0u8; 2 * PART];
-    let digits = &mut text[..2 * bytes.len()];
-    spell(bytes, digits);
-    put(duct, digits)
-}
-
-/// Spells the bytes in two digits each.
-fn spell(bytes: &[u8], digits: &mut [u8])
-    requires { length digits.old ≡ 2 * length bytes.now }
-    ensures { digits.new ≡ report.hex bytes.now }
-{
-    // the digits have just the room that is needed
-    let _ = encode_to_slice(bytes, digits);
+    match make_room(duct, page, 2 * bytes.len()) {
+        PutOut::Done => {}
+        PutOut::WriteFault => return PutOut::WriteFault,
+    }
+    page.push_hex(bytes);
+    PutOut::Done
 }

@@ -8,27 +8,19 @@ use Rattle.stream_model.specs.Reached.{StreamPrecinct}
 use Rattle.stream_model.specs.Report.{lines, end_line}
 use Rattle.stream_model.specs.StreamLaws.{said_by}
 use Rattle.stream_model.proofs.StreamShapes.{whole_stream_is_due}
+use Rattle.stream_model.proofs.ThinnedReports.{reached_has_left, thinned_is_reported}
 use Rattle.wire_model.specs.Causes.{Grew, Fell}
-use Rattle.wire_model.specs.Framing.{Splits}
+use Rattle.wire_model.specs.Framing.{Splits, framing}
+use Rattle.wire_model.specs.Thinning.{kept}
+use Rattle.stream_model.specs.ThinnedLaws.{cut_of}
 use Rattle.stream_model.specs.Receiver.{Pick}
-use Rattle.stream_model.specs.Commands.{counted, report_lines}
+use Rattle.stream_model.specs.Commands.{counted, reported, report_lines}
 use Rattle.stream_model.proofs.ReportWritten.{report_writes_what_is_due, arrive_front}
 use Rattle.scl_outside.specs.Meaning.{Meaning}
-use Rattle.scl_outside.specs.Steps.{IsOver}
 use Rattle.scl_outside.specs.Effects.{Effects, effects}
 use Rattle.scl_run.specs.declared.ending.Ending.TheVariants.{Done, ReadFault, WriteFault, WireFault, Refused, NoMemory}
-use Rattle.report_job.specs.Headlines.{HeadlineFollows, HeadlineSoFar, HeadlineAtFault, WholeStreamIsReported, IsDueSoFar}
-
--- all of the input was read
-all_read : (before now : Option (List ℕ)) (read input rest : List ℕ) → Fell before now read → IfSome now (λ r. r ≡ []) → before ≡ Some input → now ≡ Some rest → input ≡ read
-all_read before None read input rest f o b n = absurd (cc)
-all_read None (Some now) read input rest f o b n = absurd f
-all_read (Some was) (Some now) read input rest f o b n = let e : was ≡ input = cc in sym e ∙ (f ∙ (ap (λ l. read ++ l) o ∙ append-nil read))
-
--- the input is over where its end was met
-is_over : (b : Bool) (t : Meaning) → b ≡ true → MatchBool b (IsOver t) (Unit {0}) → IsOver t
-is_over true t e h = h
-is_over false t e h = absurd (cc)
+use Rattle.receiving_job.proofs.Finished.{all_read, is_over, frames_read}
+use Rattle.report_job.specs.Headlines.{HeadlineFollows, HeadlineSoFar, HeadlineAtFault, WholeStreamIsReported, ThinnedFollows, IsDueSoFar}
 
 pub headline_follows : HeadlineFollows
 headline_follows pick s t some run sent codestreams datagrams frames events input rest c arrive splits sl tl =
@@ -41,6 +33,17 @@ headline_follows pick s t some run sent codestreams datagrams frames events inpu
     let law = report_writes_what_is_due sent codestreams datagrams frames events pick f.read [] c some (subst S e splits) few arrive in
     let G : List ℕ → Type 0 = λ l. Grew s.written t.written l in
     subst G (run.ends.output ∙ law.1) run.affects.written
+
+pub thinned_follows : ThinnedFollows
+thinned_follows pick s t run p parts codestreams limit input rest can picks is sl tl =
+    let frames = kept limit (cut_of p parts) in
+    let read = frames_read reported pick s t frames input rest run (is ∙ sym (append-nil (framing frames))) sl tl in
+    let law = thinned_is_reported p parts codestreams limit pick (effects run.events).read can picks read in
+    let G : List ℕ → Type 0 = λ l. Grew s.written t.written l in
+    record {
+      written = subst G (run.ends.output ∙ law) run.affects.written;
+      left = λ codestream sent x at among low. reached_has_left p parts codestreams limit pick.window codestream sent x can picks.window at among low;
+    }
 
 pub whole_stream_is_reported : WholeStreamIsReported
 whole_stream_is_reported pick s t some run sent codestreams datagrams frames input rest c arrive splits sl tl =

@@ -15,21 +15,8 @@ use Rattle.stream_model.proofs.FrameKept.{each_precinct_is_kept}
 use Rattle.scl_outside.specs.Effects.{Effects}
 use Rattle.scl_run.specs.declared.ending.Ending.TheVariants.{Done, ReadFault, WriteFault, WireFault, Refused, NoMemory}
 use Rattle.scl_run.specs.Performing.{HasPrefix}
+use Rattle.receiving_job.proofs.FramesRead.{frames_are_bytes}
 use Rattle.report_job.specs.Readings.{kept_frames, AreReadings, counts_line, WritesReadings, EndsWithReadings, ReadingsSoFar, ReadingsAtEnd}
-
--- the frames of bytes are bytes
-first_are_bytes : (n : ℕ) (b : List ℕ) → IsBytes b → AllByRecursion IsBytes (first_frames n b)
-unfolding first_frames
-first_are_bytes zero b fits = tt
-first_are_bytes (suc n) [] fits = tt
-first_are_bytes (suc n) (high ∷ []) fits = tt
-first_are_bytes (suc n) (high ∷ low ∷ bytes) fits =
-    let size = high * 256 + low in
-    let behind : IsBytes bytes = λ i. fits (suc (suc i)) in
-    elim (nat_le size (length bytes)) as (λ t. AllByRecursion IsBytes (if t then take size bytes ∷ first_frames n (drop size bytes) else [])) [
-      | true ↦ (bytes-take size bytes behind, first_are_bytes n (drop size bytes) (bytes-drop size bytes behind))
-      | false ↦ tt
-    ]
 
 -- what holds of each of a list holds of its front
 all_front : (P : Precinct → Type 0) (xs ys : List Precinct) → AllByRecursion P (xs ++ ys) → AllByRecursion P xs
@@ -39,8 +26,7 @@ all_front P (x ∷ xs) ys all = (all.0, all_front P xs ys all.1)
 -- what the rules give of bytes, at their end
 given_at_end : (pick : Pick) (read : List ℕ) → IsBytes read → AreReadings pick read (precincts_released (flushed (received pick (whole_frames (counted read)))).releases)
 given_at_end pick read are =
-    let b = counted read in
-    each_precinct_is_kept pick (whole_frames b) (first_are_bytes (length b) b (bytes-take 1099511627776 read are))
+    each_precinct_is_kept pick (whole_frames (counted read)) (frames_are_bytes read are)
 
 -- and before it
 given_so_far : (pick : Pick) (read : List ℕ) → IsBytes read → AreReadings pick read (precincts_released (received pick (whole_frames (counted read))).releases)

@@ -1,14 +1,18 @@
 -- The headline: what `report` writes of a stream.
-use Rattle.std.specs.Prelude.{◌≡◌, ◌≤◌, ◌++◌, ℕ, List, [], length, Some}
-use Rattle.std.specs.List.{flat_map, range_with_len}
+use Rattle.std.specs.Prelude.{◌≡◌, ◌≤◌, ◌+◌, ◌++◌, ℕ, List, [], length, slice_get, Some}
+use Rattle.std.specs.List.{Contains, flat_map, range_with_len}
 use Rattle.wire_model.specs.Causes.{Grew}
-use Rattle.wire_model.specs.Framing.{Splits}
-use Rattle.stream_model.specs.Stream.{Sent, Carry, carried}
+use Rattle.wire_model.specs.Framing.{Splits, framing}
+use Rattle.wire_model.specs.Thinning.{kept}
+use Rattle.stream_model.specs.Stream.{Parts, Sent, Carry, carried}
+use Rattle.stream_model.specs.Cut.{Plan, sent_by}
+use Rattle.stream_model.specs.ThinnedLaws.{CanBeSent, Picks, cut_of, reached_through, all_kept}
+use Rattle.stream_model.specs.RunLaws.{precincts_in}
 use Rattle.stream_model.specs.Arrivals.{picked, Arrive}
 use Rattle.stream_model.specs.EndCounts.{end_counts}
 use Rattle.stream_model.specs.Laws.{all_precincts}
 use Rattle.stream_model.specs.StreamLaws.{said_by}
-use Rattle.stream_model.specs.Report.{lines, end_line}
+use Rattle.stream_model.specs.Report.{Precinct, lines, end_line}
 use Rattle.stream_model.specs.Receiver.{Pick}
 use Rattle.stream_model.specs.Commands.{counted}
 use Rattle.stream_model.specs.ReportLaws.{due_lines, end_lines}
@@ -73,3 +77,25 @@ WholeStreamIsReported =
     → Arrive datagrams (picked pick.kind pick.source frames) (range_with_len 0 (length datagrams))
     → Splits input frames [] → s.left ≡ Some input → t.left ≡ Some rest
     → Grew s.written t.written (all_lines sent frames (range_with_len 0 (length datagrams)) pick.window)
+
+-- Of a capture of what thinning keeps of a cut, exactly the precincts are written that are reached
+-- through it; every precinct of a resolution that the limit leaves is among them.
+pub record WritesThinned (p : Plan) (parts : List Parts) (limit window : ℕ) (s t : Meaning) : Type 0 where
+  pub written :
+      Grew s.written t.written
+      (lines (reached_through p parts limit window) ++ end_line (all_kept (length (kept limit (cut_of p parts)))))
+  pub left :
+      (codestream : ℕ) (sent : Sent) (x : Precinct) → slice_get (sent_by p parts) codestream ≡ Some sent
+      → Contains (precincts_in sent) x → x.place.r + 7 ≤ sent.parts.head.levels + limit
+      → Contains (reached_through p parts limit window) x
+
+-- So it is of codestreams that can be sent by a plan, for a receiver that picks the plan's stream.
+abbrev pub ThinnedStream : Pick → Meaning → Meaning → Type 0
+ThinnedStream pick s t =
+    (p : Plan) (parts : List Parts) (codestreams : List (List ℕ)) (limit : ℕ) (input rest : List ℕ)
+    → CanBeSent p parts codestreams → Picks p pick → input ≡ framing (kept limit (cut_of p parts))
+    → s.left ≡ Some input → t.left ≡ Some rest → WritesThinned p parts limit pick.window s t
+
+-- So it is with a finished run.
+abbrev pub ThinnedFollows : Type 0
+ThinnedFollows = (pick : Pick) (s t : Meaning) → RunsAs (report_job pick) s t Done → ThinnedStream pick s t

@@ -1,5 +1,5 @@
 pub mod Job
-pub mod Giving
-pub mod Turns
+pub mod Tallies
+pub mod LinesJoin
 pub mod Headlines
 pub mod Readings

@@ -1,6 +1,6 @@
 //! The headline and the readings, as laws on functions that do nothing.
 ghost use Rattle.report_job.specs.Headlines.{HeadlineFollows, HeadlineSoFar, HeadlineAtFault};
-ghost use Rattle.report_job.specs.Headlines.{WholeStreamIsReported};
+ghost use Rattle.report_job.specs.Headlines.{WholeStreamIsReported, ThinnedFollows};
 ghost use Rattle.report_job.specs.Readings.{ReadingsSoFar, ReadingsAtEnd};
 
 /// What a finished report has written of a stream's capture are the lines of what is due at its
@@ -37,4 +37,10 @@ pub fn readings_so_far()
 /// that are and however it ended; and the END line where it finished.
 pub fn readings_at_end()
     ensures { ReadingsAtEnd }
+{}
+
+/// What a finished report has written of a capture of what thinning keeps of a cut are the lines of
+/// what is reached through it, every precinct of a resolution that the limit leaves among them.
+pub fn thinned_follows()
+    ensures { ThinnedFollows }
 {}

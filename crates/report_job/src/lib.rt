@@ -3,14 +3,15 @@
 #![tactic(auto)]
 
 mod capture;
-mod giving;
 mod laws;
+mod lines;
 
 pub use capture::report;
 pub use laws::{
     headline_at_fault, headline_follows, headline_so_far, readings_at_end, readings_so_far,
-    whole_stream_is_reported,
+    thinned_follows, whole_stream_is_reported,
 };
+pub use lines::Lines;
 
 #[cfg(test)]
 mod tests;

@@ -22,6 +22,14 @@ scl carries JPEG 2000 codestreams over RTP. It reads standard input and writes s
                                   positions and ranges with commas between them, as 0-4,6
   scl report KIND SOURCE WINDOW   shows the precincts that a capture gives of a stream, each as soon as it is
                                   complete; SOURCE is an SSRC or any, WINDOW 1 to 16384 datagrams
+  scl rebuild KIND SOURCE WINDOW  writes the codestreams of such a stream again, with an empty packet for each precinct that
+                                  is missing
+  scl send MTU plain|split KIND SOURCE NUMBER STAMP STEP IDLE LOCAL PEER
+                                  sends the datagrams of codestreams from LOCAL to PEER; one is given up where it can't be
+                                  sent IDLE times in a row
+  scl recv KIND SOURCE WINDOW MAX IDLE LOCAL
+                                  shows the precincts of a stream that comes to LOCAL, each as soon as it is complete;
+                                  ends after MAX datagrams or IDLE milliseconds of silence
   scl relay MAX IDLE LOCAL PEER T DEPTH ..
                                   passes on MAX datagrams at most that come to LOCAL to 1 to 64 receivers, each with
                                   an address, a limit and a queue; ends after IDLE milliseconds of silence

@@ -59,7 +59,7 @@ with_three words v first second third (w ∷ x ∷ y ∷ [], is) n a b c =
 with_three words v first second third (w ∷ x ∷ y ∷ z ∷ more, is) n a b c = absurd (let e : suc (suc (suc (suc (suc (length more))))) ≡ 4 = sym (ap length is) ∙ n in omega arith)
 
 -- Two lists of words are one where they have the same words at each index.
-same_words : (words values : List (List ℕ)) → length words ≡ length values → ((i : ℕ) → i < length values → slice_get words i ≡ slice_get values i) → words ≡ values
+pub same_words : (words values : List (List ℕ)) → length words ≡ length values → ((i : ℕ) → i < length values → slice_get words i ≡ slice_get values i) → words ≡ values
 same_words [] [] n h = refl
 same_words [] (v ∷ values) n h = absurd (omega (arith, n))
 same_words (w ∷ words) [] n h = absurd (omega (arith, n))

@@ -9,5 +9,10 @@ pub mod Runs
 pub mod MachineSteps
 pub mod Reported
 pub mod Packed
+pub mod Rebuilt
+pub mod Receiving
+pub mod RecvSpelt
+pub mod SendSpelt
+pub mod Sending
 pub mod RelaySpelt
 pub mod GenSpelt

@@ -19,10 +19,10 @@ use Rattle.scl_run.specs.Runs.{RunsAs}
 use Rattle.scl_run.proofs.Performed.{performed}
 use Rattle.stream_receiver.specs.States.{pick_of}
 use Rattle.report_job.specs.Job.{report_job}
-use Rattle.report_job.specs.Headlines.{Headline, IsDueSoFar}
+use Rattle.report_job.specs.Headlines.{Headline, IsDueSoFar, ThinnedStream}
 use Rattle.report_job.specs.Readings.{WritesReadings}
 use Rattle.report_job.proofs.Readings.{readings_so_far, readings_at_end}
-use Rattle.report_job.proofs.Promised.{headline_follows, whole_stream_is_reported, headline_so_far, headline_at_fault}
+use Rattle.report_job.proofs.Promised.{headline_follows, whole_stream_is_reported, thinned_follows, headline_so_far, headline_at_fault}
 use Rattle.scl_cli.specs.declared.command.Command.{Command}
 use Rattle.scl_cli.specs.declared.command.Command.TheVariants.{Report}
 use Rattle.stream_receiver.specs.declared.pick.Pick.{Pick as Picked}
@@ -37,8 +37,8 @@ each_mark P Q s t [] follows all = all
 each_mark P Q s t (m ∷ marks) follows all = ((all.0.0, all.0.1, follows all.0.0 all.0.2), each_mark P Q s t marks follows all.1)
 
 -- a status of one ending and no other
-by_headline : (pick : Pick) (s t : Meaning) (ending : Ending) → 1 ≤ pick.window → RunsAs (report_job pick) s t ending → status_of ending ≡ 0 → Headline pick s t × WholeStream pick s t
-by_headline pick s t Done some runs is = (headline_follows pick s t some runs, whole_stream_is_reported pick s t some runs)
+by_headline : (pick : Pick) (s t : Meaning) (ending : Ending) → 1 ≤ pick.window → RunsAs (report_job pick) s t ending → status_of ending ≡ 0 → Headline pick s t × WholeStream pick s t × ThinnedStream pick s t
+by_headline pick s t Done some runs is = (headline_follows pick s t some runs, whole_stream_is_reported pick s t some runs, thinned_follows pick s t runs)
 by_headline pick s t ReadFault some runs is = absurd (cc)
 by_headline pick s t WriteFault some runs is = absurd (cc)
 by_headline pick s t WireFault some runs is = absurd (cc)
@@ -75,6 +75,7 @@ reports : (pick : Pick) (s t : Meaning) (ending : Ending) → 1 ≤ pick.window 
 reports pick s t ending some runs = record {
   headline = λ is. (by_headline pick s t ending some runs is).0;
   whole = λ is. (by_headline pick s t ending some runs is).1;
+  thinned = λ is. (by_headline pick s t ending some runs is).2;
   prompt = (runs.prompt.0, runs.prompt.1, each_mark (IsSoFar (report_job pick)) (IsDueSoFar pick) s t runs.prompt.0 (λ f so_far. headline_so_far pick f some so_far) runs.prompt.2);
   at_fault = λ is. by_fault pick s t ending some runs is;
   readings = readings pick s t ending runs;

@@ -18,7 +18,7 @@ use Rattle.deliver_job.specs.Items.{ranges_of}
 use Rattle.deliver_job.proofs.Lawful.{delivered_inputs_are_lawful}
 use Rattle.scl_run.proofs.Decided.{decides, wants}
 use Rattle.scl_cli.specs.declared.command.Command.{Command}
-use Rattle.scl_cli.specs.declared.command.Command.TheVariants.{Thin, Head, Order, Parse, Pack, Report, Relay, Deliver, Gen}
+use Rattle.scl_cli.specs.declared.command.Command.TheVariants.{Thin, Head, Order, Parse, Pack, Report, Rebuild, Recv, Send, Relay, Deliver, Gen}
 use Rattle.scl_cli.specs.Commands.{Spells, form}
 use Rattle.scl_cli.specs.Jobs.{job}
 use Rattle.scl_cli.specs.Runs.{Ran}
@@ -31,6 +31,9 @@ lawful Order range = header_input_is_lawful
 lawful (Parse stamps) range = codestreams_are_lawful
 lawful (Pack plan) range = sent_inputs_are_lawful plan range
 lawful (Report pick) range = capture_input_is_lawful
+lawful (Rebuild pick) range = capture_input_is_lawful
+lawful (Recv s) range = no_input_is_lawful
+lawful (Send s) range = sent_inputs_are_lawful s.plan range.plan
 lawful (Relay settings) range = no_input_is_lawful
 lawful (Deliver list) range = delivered_inputs_are_lawful (ranges_of list)
 lawful (Gen g) range = no_input_is_lawful

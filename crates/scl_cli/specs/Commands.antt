@@ -1,10 +1,12 @@
 -- The grammar of a command line.
-use Rattle.std.specs.Prelude.{◌≡◌, ◌≤◌, ◌<◌, ◌^◌, ◌⊎◌, ◌==◌, ◌++◌, ℕ, Bool, true, false, List, [], ◌∷◌, Option, Some, None, codes, decimal, if◌then◌else◌}
-use Rattle.stream_model.specs.Cut.{IsPlan}
+use Rattle.std.specs.Prelude.{◌≡◌, ◌≤◌, ◌<◌, ◌^◌, ◌⊎◌, ◌==◌, ◌++◌, ℕ, Bool, true, false, List, [], ◌∷◌, Option, Some, None, codes, decimal, slice_get, if◌then◌else◌}
+use Rattle.stream_model.specs.Cut.{Plan, IsPlan}
+use Rattle.send_job.specs.Settings.{AreSettings as AreSender}
 use Rattle.stream_receiver.specs.declared.pick.Pick.{Pick}
 use Rattle.relay_job.specs.Settings.{Target, AreSettings}
+use Rattle.recv_job.specs.Settings.{Settings as Receiver, AreSettings as AreReceiver}
 use Rattle.scl_cli.specs.declared.command.Command.{Command}
-use Rattle.scl_cli.specs.declared.command.Command.TheVariants.{Thin, Head, Order, Parse, Pack, Report, Relay, Deliver, Gen}
+use Rattle.scl_cli.specs.declared.command.Command.TheVariants.{Thin, Head, Order, Parse, Pack, Report, Rebuild, Recv, Send, Relay, Deliver, Gen}
 use Rattle.scl_cli.specs.declared.command.Stamps.{Stamps}
 use Rattle.scl_cli.specs.declared.command.Verb.{Verb}
 use Rattle.deliver_job.specs.Positions.{IsList, list_word}
@@ -23,6 +25,9 @@ verb_word verb.Order = codes "order"
 verb_word verb.Parse = codes "parse"
 verb_word verb.Pack = codes "pack"
 verb_word verb.Report = codes "report"
+verb_word verb.Rebuild = codes "rebuild"
+verb_word verb.Recv = codes "recv"
+verb_word verb.Send = codes "send"
 verb_word verb.Relay = codes "relay"
 verb_word verb.Deliver = codes "deliver"
 verb_word verb.Gen = codes "gen"
@@ -55,6 +60,35 @@ pub record IsPick (pick : Pick) : Type 0 where
   pub some : 1 ≤ pick.window
   pub few : pick.window ≤ 16384
 
+-- The words of a plan for datagrams.
+abbrev pub plan_words : Plan → List (List ℕ)
+plan_words p =
+    decimal p.mtu ∷ mode_word p.split ∷ decimal p.kind ∷ decimal p.source ∷ decimal p.number ∷ decimal p.stamp
+    ∷ decimal p.step
+    ∷ []
+
+-- The second word and the six after it spell this plan.
+pub record HasPlan (words : List (List ℕ)) (p : Plan) : Type 0 where
+  pub range : IsPlan p
+  pub mtu : slice_get words 1 ≡ Some (decimal p.mtu)
+  pub mode : slice_get words 2 ≡ Some (mode_word p.split)
+  pub kind : slice_get words 3 ≡ Some (decimal p.kind)
+  pub source : slice_get words 4 ≡ Some (decimal p.source)
+  pub number : slice_get words 5 ≡ Some (decimal p.number)
+  pub stamp : slice_get words 6 ≡ Some (decimal p.stamp)
+  pub step : slice_get words 7 ≡ Some (decimal p.step)
+
+-- The words of a stream that is picked.
+abbrev pub pick_words : Pick → List (List ℕ)
+pick_words pick = decimal pick.kind ∷ source_word pick.source ∷ decimal pick.window ∷ []
+
+-- The second word and the two after it pick this stream.
+pub record HasPick (words : List (List ℕ)) (pick : Pick) : Type 0 where
+  pub range : IsPick pick
+  pub kind : slice_get words 1 ≡ Some (decimal pick.kind)
+  pub source : slice_get words 2 ≡ Some (source_word pick.source)
+  pub window : slice_get words 3 ≡ Some (decimal pick.window)
+
 -- The words of receivers: the address, the limit and the depth of each.
 abbrev pub target_words : List Target → List (List ℕ)
 target_words [] = []
@@ -80,6 +114,12 @@ pub record IsGeneration (g : Generation) : Type 0 where
   pub seed : g.seed < 2 ^ 64
   pub shape : IsShape (shape_of g)
 
+-- The ranges of what is asked of a receiver.
+pub record IsReceiver (s : Receiver) : Type 0 where
+  pub kind : s.pick.kind ≤ 127
+  pub source : IsSource s.pick.source
+  pub settings : AreReceiver s
+
 -- How a command is spelt: its first word, the other words, and the ranges of its values.
 pub record Form : Type 1 where
   pub verb : Verb
@@ -92,15 +132,21 @@ form (Thin limit) = record { verb = verb.Thin; values = decimal limit ∷ []; Is
 form Head = record { verb = verb.Head; values = []; IsInRange = Unit {0} }
 form Order = record { verb = verb.Order; values = []; IsInRange = Unit {0} }
 form (Parse stamps) = record { verb = verb.Parse; values = decimal stamps.first ∷ decimal stamps.step ∷ []; IsInRange = IsStamps stamps }
-form (Pack p) = record {
-  verb = verb.Pack;
+form (Pack p) = record { verb = verb.Pack; values = plan_words p; IsInRange = IsPlan p }
+form (Report pick) = record { verb = verb.Report; values = pick_words pick; IsInRange = IsPick pick }
+form (Rebuild pick) = record { verb = verb.Rebuild; values = pick_words pick; IsInRange = IsPick pick }
+form (Recv s) = record {
+  verb = verb.Recv;
   values =
-      decimal p.mtu ∷ mode_word p.split ∷ decimal p.kind ∷ decimal p.source ∷ decimal p.number ∷ decimal p.stamp
-      ∷ decimal p.step
+      decimal s.pick.kind ∷ source_word s.pick.source ∷ decimal s.pick.window ∷ decimal s.max ∷ decimal s.idle ∷ s.local
       ∷ [];
-  IsInRange = IsPlan p;
+  IsInRange = IsReceiver s;
 }
-form (Report pick) = record { verb = verb.Report; values = decimal pick.kind ∷ source_word pick.source ∷ decimal pick.window ∷ []; IsInRange = IsPick pick }
+form (Send s) = record {
+  verb = verb.Send;
+  values = plan_words s.plan ++ decimal s.idle ∷ s.local ∷ s.peer ∷ [];
+  IsInRange = AreSender s;
+}
 form (Relay s) = record { verb = verb.Relay; values = decimal s.max ∷ decimal s.idle ∷ s.local ∷ target_words s.targets; IsInRange = AreSettings s }
 form (Deliver list) = record { verb = verb.Deliver; values = list_word list ∷ []; IsInRange = IsList list }
 form (Gen g) = record {

@@ -11,4 +11,7 @@ pub mod Showing
 pub mod Runs
 pub mod ReportPromise
 pub mod PackPromise
+pub mod RebuildPromise
+pub mod RecvPromise
+pub mod SendPromise
 pub mod MachineMeaning

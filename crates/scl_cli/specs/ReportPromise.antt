@@ -12,7 +12,7 @@ use Rattle.scl_outside.specs.Traces.{Affects}
 use Rattle.scl_outside.specs.Prompt.{Prompt}
 use Rattle.stream_receiver.specs.declared.pick.Pick.{Pick as Picked}
 use Rattle.stream_receiver.specs.States.{pick_of}
-use Rattle.report_job.specs.Headlines.{Headline, IsDueSoFar, all_lines}
+use Rattle.report_job.specs.Headlines.{Headline, IsDueSoFar, all_lines, ThinnedStream}
 use Rattle.report_job.specs.Readings.{WritesReadings, EndsWithReadings}
 use Rattle.scl_cli.specs.declared.command.Command.TheVariants.{Report}
 use Rattle.scl_cli.specs.Commands.{Spells}
@@ -36,11 +36,12 @@ abbrev pub WritesReadingsAlone : Pick → Meaning → Meaning → ℕ → Type 0
 WritesReadingsAlone pick s t status =
     Prompt (WritesReadings pick) s t × ((f : Effects) × Affects s f t × EndsWithReadings pick status f)
 
--- A run of `report` with this status: with 0 the headline holds, at each mark what was written by then is what was due by then, and
+-- A run of `report` with this status: with 0 the headline holds, and so does the law of thinned streams; at each mark what was written by then is what was due by then, and
 -- so with 3 and 6; and of any input whatsoever only readings are written.
 pub record Reports (pick : Pick) (s t : Meaning) (status : ℕ) : Type 0 where
   pub headline : status ≡ 0 → Headline pick s t
   pub whole : status ≡ 0 → WholeStream pick s t
+  pub thinned : status ≡ 0 → ThinnedStream pick s t
   pub prompt : Prompt (IsDueSoFar pick) s t
   pub at_fault : (status ≡ 3) ⊎ (status ≡ 6) → DueAtFault pick s t
   pub readings : WritesReadingsAlone pick s t status

@@ -11,13 +11,17 @@ use crate::head::head_of;
 use crate::order::order_of;
 use crate::pack::pack_of;
 use crate::parse::parse_of;
+use crate::pick::{rebuild_of, report_of};
+use crate::recv::recv_of;
 use crate::relay::relay_of;
-use crate::report::report_of;
+use crate::send::send_of;
 use crate::thin::thin_of;
 use deliver_job::Positions;
 use gen_job::Generation;
 use packetiser::PackPlan;
+use recv_job::Settings as Reception;
 use relay_job::Settings;
+use send_job::Settings as Sending;
 use stream_receiver::Pick;
 
 /// What the program is asked to do.
@@ -35,6 +39,12 @@ pub enum Command {
     Pack(PackPlan),
     /// `report KIND SOURCE WINDOW`: write the lines of the precincts that a capture gives of a stream.
     Report(Pick),
+    /// `rebuild KIND SOURCE WINDOW`: write codestreams again from the packets that a capture gives of a stream.
+    Rebuild(Pick),
+    /// `recv KIND SOURCE WINDOW MAX IDLE LOCAL`: write the lines of the precincts of a stream that comes.
+    Recv(Reception),
+    /// `send MTU plain|split KIND SOURCE NUMBER STAMP STEP IDLE LOCAL PEER`: send codestreams to a peer.
+    Send(Sending),
     /// `relay MAX IDLE LOCAL` and 1 to 64 times `PEER T DEPTH`: pass on datagrams to each receiver.
     Relay(Settings),
     /// `deliver LIST`: write the frames of a capture at the listed positions.
@@ -59,6 +69,9 @@ pub enum Verb {
     Parse,
     Pack,
     Report,
+    Rebuild,
+    Recv,
+    Send,
     Relay,
     Deliver,
     Gen,
@@ -76,6 +89,9 @@ fn verb_in(word: &str) -> Option<Verb>
         "parse" => Some(Verb::Parse),
         "pack" => Some(Verb::Pack),
         "report" => Some(Verb::Report),
+        "rebuild" => Some(Verb::Rebuild),
+        "recv" => Some(Verb::Recv),
+        "send" => Some(Verb::Send),
         "relay" => Some(Verb::Relay),
         "deliver" => Some(Verb::Deliver),
         "gen" => Some(Verb::Gen),
@@ -98,6 +114,9 @@ pub fn command_of(words: &Words) -> Option<Command>
         Verb::Parse => parse_of(words),
         Verb::Pack => pack_of(words),
         Verb::Report => report_of(words),
+        Verb::Rebuild => rebuild_of(words),
+        Verb::Recv => recv_of(words),
+        Verb::Send => send_of(words),
         Verb::Relay => relay_of(words),
         Verb::Deliver => deliver_of(words),
         Verb::Gen => gen_of(words),

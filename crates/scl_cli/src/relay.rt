@@ -11,7 +11,7 @@ use relay_job::Settings;
 use scl_run::number_within;
 
 /// Whether a word can be an address: 1 to 64 bytes.
-fn is_address(word: &str) -> bool
+pub fn is_address(word: &str) -> bool
     ensures { (result ≡ true) ↔ IsAddress word.now }
 {
     !word.is_empty() && word.len() <= 64

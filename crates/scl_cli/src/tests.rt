@@ -12,14 +12,17 @@ use std::test::Fail;
 
 mod captures;
 mod delivers;
+mod failures;
 mod forged;
 mod generates;
 mod headers;
 mod hostile;
+mod live;
 mod machines;
 mod orders;
 mod packs;
 mod parses;
+mod rebuilds;
 mod relays;
 mod reports;
 mod sure;

@@ -8,6 +8,9 @@ ghost use Rattle.scl_cli.specs.Jobs.{job};
 ghost use Rattle.scl_cli.specs.Runs.{Ran, Decided, MayLackMemory};
 ghost use Rattle.scl_cli.specs.ReportPromise.{ReportsStreams};
 ghost use Rattle.scl_cli.specs.PackPromise.{PacksStreams};
+ghost use Rattle.scl_cli.specs.RebuildPromise.{RebuildsStreams};
+ghost use Rattle.scl_cli.specs.RecvPromise.{ReceivesStreams};
+ghost use Rattle.scl_cli.specs.SendPromise.{SendsStreams};
 
 use crate::Words;
 use crate::command::{Command, command_of};
@@ -18,10 +21,13 @@ use deliver_job::deliver;
 use gen_job::write_generated;
 use pack_job::pack;
 use parse_job::parse;
+use rebuild_job::rebuild;
+use recv_job::recv;
 use relay_job::relay;
 use report_job::report;
 use scl_outside::Outside;
 use scl_run::{Ending, finish};
+use send_job::send;
 use std::alloc::Global;
 
 /// Performs a command.
@@ -37,6 +43,9 @@ fn perform<O: Outside>(alloc: Global, command: Command, out: &mut O) -> Ending
         Command::Parse(stamps) => parse(alloc, stamps.first, stamps.step, out),
         Command::Pack(plan) => pack(alloc, plan, out),
         Command::Report(pick) => report(alloc, pick, out),
+        Command::Rebuild(pick) => rebuild(alloc, pick, out),
+        Command::Recv(settings) => recv(alloc, &settings, out),
+        Command::Send(settings) => send(alloc, settings, out),
         Command::Relay(settings) => relay(alloc, &settings, out),
         Command::Deliver(list) => deliver(alloc, list.items(), out),
         Command::Gen(asked) => write_generated(alloc, asked, out),
@@ -59,6 +68,9 @@ pub fn run<O: Outside>(alloc: Global, words: &Words, out: &mut O) -> u8
     ensures memory { result ≡ 7 → MayLackMemory words.now (O.meaning out.old) (O.meaning out.new) }
     ensures report { ReportsStreams words.now (O.meaning out.old) (O.meaning out.new) result }
     ensures pack { PacksStreams words.now (O.meaning out.old) (O.meaning out.new) result }
+    ensures recv { ReceivesStreams words.now (O.meaning out.old) (O.meaning out.new) result }
+    ensures send { SendsStreams words.now (O.meaning out.old) (O.meaning out.new) result }
+    ensures rebuild { RebuildsStreams words.now (O.meaning out.old) (O.meaning out.new) result }
 {
     let Some(command) = command_of(words) else {
         out.note(b"scl: words\n");

@@ -3,6 +3,7 @@ pub mod Traces
 pub mod ReadBytes
 pub mod Affects
 pub mod Prompted
+pub mod Putting
 pub mod TextsCut
 pub mod Named
 pub mod Received

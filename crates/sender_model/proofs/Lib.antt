@@ -1,7 +1,7 @@
 mod PiecesFound
 pub mod ClosedComputed
 pub mod Refused
-mod Told
+pub mod Told
 mod Packed
 mod WorkedClosings
 mod WorkedSends

@@ -4,7 +4,7 @@ use scl_outside::{Inbound, LinkPlan, Outside, SendOut};
 
 /// What comes in after the five datagrams.
 #[derive(Clone, Copy, PartialEq, Eq)]
-enum After {
+pub enum After {
     Nothing,
     Closed,
     ShortThenClosed,
@@ -13,7 +13,7 @@ enum After {
 }
 
 /// The five datagrams of the stream.
-fn datagrams() -> [&'static [u8]; 5] {
+pub fn datagrams() -> [&'static [u8]; 5] {
     [
         &CAPTURE_B[2..112],
         &CAPTURE_B[114..224],
@@ -24,7 +24,7 @@ fn datagrams() -> [&'static [u8]; 5] {
 }
 
 /// The five datagrams, and then this.
-fn inbound(alloc: Global, after: After) -> Result<Vec<Inbound>, AllocError> {
+pub fn inbound(alloc: Global, after: After) -> Result<Vec<Inbound>, AllocError> {
     let mut entries = Vec::new(alloc);
     for datagram in datagrams() {
         entries.push(Inbound::Datagram(datagram.to_vec(alloc)?))?;

@@ -1,6 +1,6 @@
 use Rattle.std.proofs.Common.{[], ◌∷◌}
 use Rattle.scl_outside.specs.Events.{Wrote, WriteFailed}
-use Rattle.codestream_rebuild.proofs.Putting.{puts_wrote, puts_not}
+use Rattle.scl_outside.proofs.Putting.{puts_wrote, puts_not}
 use Rattle.codestream_rebuild.proofs.writing.put.Goals as goal
 
 pub returns-in-Done : goal.returns-in-Done

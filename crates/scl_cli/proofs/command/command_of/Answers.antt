@@ -13,6 +13,15 @@ order_of-requires c = rw c.in-Order.is at (begins _ _ _ c.get.ensures c.in_ok-ve
 pub report_of-requires : goal.report_of-requires
 report_of-requires c = rw c.in-Report.is at (begins _ _ _ c.get.ensures c.in_ok-verb_in.ensures.named)
 
+pub rebuild_of-requires : goal.rebuild_of-requires
+rebuild_of-requires c = rw c.in-Rebuild.is at (begins _ _ _ c.get.ensures c.in_ok-verb_in.ensures.named)
+
+pub recv_of-requires : goal.recv_of-requires
+recv_of-requires c = rw c.in-Recv.is at (begins _ _ _ c.get.ensures c.in_ok-verb_in.ensures.named)
+
+pub send_of-requires : goal.send_of-requires
+send_of-requires c = rw c.in-Send.is at (begins _ _ _ c.get.ensures c.in_ok-verb_in.ensures.named)
+
 pub parse_of-requires : goal.parse_of-requires
 parse_of-requires c = rw c.in-Parse.is at (begins _ _ _ c.get.ensures c.in_ok-verb_in.ensures.named)
 

@@ -1,7 +1,7 @@
 use Rattle.std.proofs.Common.{◌++◌, refl, sym}
 use Rattle.rebuild_model.specs.Rebuilding.{eoc, empty_packet, empty_packets}
 use Rattle.precinct_geometry.specs.Spans.{place_of}
-use Rattle.codestream_rebuild.proofs.Putting.{puts_same, puts_then, puts_front}
+use Rattle.scl_outside.proofs.Putting.{puts_same, puts_then, puts_front}
 use Rattle.codestream_rebuild.proofs.Filling.{closing_more, closing_end}
 use Rattle.codestream_rebuild.proofs.codestream.Codestream.close.Goals as goal
 

@@ -1,7 +1,7 @@
 use Rattle.std.proofs.Common.{◌++◌, refl, sym, ◌∙◌}
 use Rattle.rebuild_model.specs.Rebuilding.{empty_packet, empty_packets, places_before}
 use Rattle.precinct_geometry.specs.Spans.{place_of}
-use Rattle.codestream_rebuild.proofs.Putting.{puts_same, puts_then, puts_front}
+use Rattle.scl_outside.proofs.Putting.{puts_same, puts_then, puts_front}
 use Rattle.codestream_rebuild.proofs.Filling.{filled_more, filled_until}
 use Rattle.codestream_rebuild.proofs.codestream.Codestream.fill_up_to.Goals as goal
 

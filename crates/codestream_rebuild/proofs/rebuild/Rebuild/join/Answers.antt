@@ -1,7 +1,7 @@
 use Rattle.std.proofs.Common.{◌++◌, sym, ◌∙◌}
 use Rattle.rebuild_model.specs.Rebuilding.{empty_packets, places_before}
 use Rattle.precinct_geometry.specs.Spans.{place_of}
-use Rattle.codestream_rebuild.proofs.Putting.{puts_same, puts_then}
+use Rattle.scl_outside.proofs.Putting.{puts_same, puts_then}
 use Rattle.codestream_rebuild.proofs.Opens.{up_to_some}
 use Rattle.codestream_rebuild.proofs.rebuild.Rebuild.join.Goals as goal
 

@@ -2,7 +2,7 @@ use Rattle.std.proofs.Common.{◌++◌, ◌∙◌}
 use Rattle.rebuild_model.specs.Stripping.{stripped}
 use Rattle.rebuild_model.specs.Rebuilding.{closing}
 use Rattle.precinct_geometry.specs.Spans.{place_of}
-use Rattle.codestream_rebuild.proofs.Putting.{puts_same, puts_then, puts_front}
+use Rattle.scl_outside.proofs.Putting.{puts_same, puts_then, puts_front}
 use Rattle.codestream_rebuild.proofs.Opens.{opening_new, open_new}
 use Rattle.codestream_rebuild.proofs.rebuild.Rebuild.open_for.Goals as goal
 

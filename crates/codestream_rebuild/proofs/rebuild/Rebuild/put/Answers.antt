@@ -3,7 +3,7 @@ use Rattle.std.specs.Prelude.{Option}
 use Rattle.rebuild_model.specs.Rebuilding.{Open}
 use Rattle.precinct_geometry.specs.Spans.{place_of}
 use Rattle.codestream_rebuild.specs.Opening.{IsUnder, open_for, opening, open_past, up_to}
-use Rattle.codestream_rebuild.proofs.Putting.{puts_same, puts_then, puts_front}
+use Rattle.scl_outside.proofs.Putting.{puts_same, puts_then, puts_front}
 use Rattle.codestream_rebuild.proofs.Opens.{added_is, after_is, under_is}
 use Rattle.codestream_rebuild.proofs.rebuild.Rebuild.put.Goals as goal
 

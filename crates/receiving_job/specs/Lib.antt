@@ -1,0 +1,4 @@
+pub mod Sinks
+pub mod Giving
+pub mod Job
+pub mod Turns

@@ -1,0 +1,4 @@
+pub mod Datagrams
+pub mod Turned
+pub mod SoFar
+pub mod Promised

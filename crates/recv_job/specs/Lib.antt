@@ -1,0 +1,4 @@
+pub mod Settings
+pub mod Job
+pub mod Turns
+pub mod Headlines

@@ -1,0 +1,4 @@
+mod Offered
+mod Working
+mod Ended
+pub mod Lawful
