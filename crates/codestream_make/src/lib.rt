@@ -13,6 +13,7 @@ mod plan;
 mod shape;
 
 pub use codestream::make;
+pub use draws::Draws;
 pub use fault::MakeFault;
 pub use generator::generate;
 pub use plan::{CodePlan, PrecinctPlan};

@@ -1,8 +1,7 @@
 -- The job of `gen`.
 use Rattle.std.specs.Prelude.{ℕ}
 use Rattle.trial_model.specs.Generator.{Shape, generated}
-use Rattle.scl_run.specs.InputClass.{no_input}
-use Rattle.scl_run.specs.Job.{Job, plain, BeforeInput}
+use Rattle.scl_run.specs.Job.{Job, writing}
 use Rattle.codestream_make.specs.Generating.{asked}
 use Rattle.gen_job.specs.declared.generation.Generation.{Generation}
 
@@ -12,4 +11,4 @@ shape_of g = asked g.width g.height g.components g.levels g.sub g.order g.eph
 
 -- `gen` reads nothing and writes the generated codestream; it may find no memory before anything is written.
 abbrev pub gen_job : Shape → ℕ → Job
-gen_job shape seed = plain no_input (λ read ended. generated shape seed) BeforeInput
+gen_job shape seed = writing (generated shape seed)

@@ -30,12 +30,12 @@ followed_is true r e = refl
 followed_is false r e = absurd (cc)
 
 -- bytes of one more frame
-all_bytes : (frames : List (List ℕ)) (d : List ℕ) → AllByRecursion IsBytes frames → IsBytes d → AllByRecursion IsBytes (frames ++ d ∷ [])
+pub all_bytes : (frames : List (List ℕ)) (d : List ℕ) → AllByRecursion IsBytes frames → IsBytes d → AllByRecursion IsBytes (frames ++ d ∷ [])
 all_bytes [] d all is = (is, tt)
 all_bytes (f ∷ frames) d all is = (all.0, all_bytes frames d all.1 is)
 
 -- what was received after one more frame
-grown : (s : ReceiverState) (xs : List Release) (h : HasGiven s xs) (d : List ℕ) → received s.pick (h.frames ++ d ∷ []) ≡ having_given xs (take_frame s.pick s.rules d)
+pub grown : (s : ReceiverState) (xs : List Release) (h : HasGiven s xs) (d : List ℕ) → received s.pick (h.frames ++ d ∷ []) ≡ having_given xs (take_frame s.pick s.rules d)
 grown s xs h d = (received_grows s.pick h.frames d).0 ∙ (ap (λ r. take_frame s.pick r d) h.is ∙ frame_join s.pick xs s.rules d)
 
 -- the first packets up to those of one more frame
@@ -218,30 +218,28 @@ flushed_is s t ready e = e ∙ ap flushed (followed_is s.settled s.rules ready.s
 pub first_flushed : (s t : ReceiverState) (xs : List Release) → IsReady s → HasGiven s xs → counted s.rules < 2 ^ 63 → rest t ≡ flushed (followed_by s.settled s.rules) → AreFirst (xs ++ (rest t).releases)
 first_flushed s t xs ready h few e = first_same _ _ (ap (λ (r : rules.Receiver). xs ++ r.releases) (sym (flushed_is s t ready e))) (first_at_end s xs h few)
 
-pub end_failed : (so_far : List Release → List ℕ) (made : rules.Receiver → Bool → List ℕ) (HasPut : List Release → Type 0) (xs : List Release) (s t u : ReceiverState) (m n : Meaning) (es : List Event)
-    → ((r : rules.Receiver) → Extends (so_far (flushed r).releases) (made r true)) → IsReady s → rest t ≡ flushed (followed_by s.settled s.rules) → Gives so_far HasPut xs (rest t) WriteFault u m n es
+-- all packets were put once those that were held are
+pub end_put : (s : ReceiverState) (xs : List Release) → (flushed (having_given xs s.rules)).releases ≡ xs ++ (flushed s.rules).releases
+end_put s xs = ap (λ (r : rules.Receiver). r.releases) (end_joins xs s.rules)
+
+pub end_failed : (so_far : List Release → List ℕ) (made : rules.Receiver → Bool → List ℕ) (HasPut : List Release → Type 0) (xs : List Release) (s u : ReceiverState) (m n : Meaning) (es : List Event)
+    → ((r : rules.Receiver) → Extends (so_far (flushed r).releases) (made r true)) → Gives so_far HasPut xs (flushed s.rules) WriteFault u m n es
     → Ends so_far made xs s.rules m n WriteFault es
-end_failed so_far made HasPut xs s t u m n es at_end ready e g =
+end_failed so_far made HasPut xs s u m n es at_end g =
     let (more, is) = at_end (having_given xs s.rules) in
-    let joins : (flushed (having_given xs s.rules)).releases ≡ xs ++ (rest t).releases =
-    ap (λ (r : rules.Receiver). r.releases) (end_joins xs s.rules) ∙ ap (λ (r : rules.Receiver). xs ++ r.releases) (sym (flushed_is s t ready e)) in
     record {
       text = g.puts.text ++ more;
-      adds = is ∙ (ap (λ l. so_far l ++ more) joins ∙ (ap (λ l. l ++ more) g.puts.adds ∙ append_assoc (so_far xs) g.puts.text more));
+      adds = is ∙ (ap (λ l. so_far l ++ more) (end_put s xs) ∙ (ap (λ l. l ++ more) g.puts.adds ∙ append_assoc (so_far xs) g.puts.text more));
       puts = puts_front g.puts.text more _ _ _ g.puts.puts;
     }
 
-pub end_put : (s t : ReceiverState) (xs : List Release) → IsReady s → rest t ≡ flushed (followed_by s.settled s.rules) → xs ++ (rest t).releases ≡ (flushed (having_given xs s.rules)).releases
-end_put s t xs ready e =
-    ap (λ (r : rules.Receiver). xs ++ r.releases) (flushed_is s t ready e) ∙ ap (λ (r : rules.Receiver). r.releases) (sym (end_joins xs s.rules))
+pub end_counts : (s u : ReceiverState) (xs : List Release) → u.rules ≡ forgetful (flushed s.rules) → counts_of u.rules ≡ counts_of (flushed (having_given xs s.rules))
+end_counts s u xs left = ap counts_of left ∙ ap counts_of (sym (end_joins xs s.rules))
 
-pub end_counts : (s t u : ReceiverState) (xs : List Release) → IsReady s → rest t ≡ flushed (followed_by s.settled s.rules) → u.rules ≡ forgetful (rest t) → counts_of u.rules ≡ counts_of (flushed (having_given xs s.rules))
-end_counts s t u xs ready e left = ap counts_of left ∙ (ap counts_of (flushed_is s t ready e) ∙ ap counts_of (sym (end_joins xs s.rules)))
-
-pub end_done : (so_far : List Release → List ℕ) (made : rules.Receiver → Bool → List ℕ) (HasPut : List Release → Type 0) (xs : List Release) (s t u : ReceiverState) (result : PutOut) (m n o : Meaning) (es fs : List Event) → IsReady s
-    → rest t ≡ flushed (followed_by s.settled s.rules) → Gives so_far HasPut xs (rest t) Done u m n es → PutsEnd so_far made (having_given xs s.rules) n o result fs → Ends so_far made xs s.rules m o result (es ++ fs)
-end_done so_far made HasPut xs s t u result m n o es fs ready e g p = record {
+pub end_done : (so_far : List Release → List ℕ) (made : rules.Receiver → Bool → List ℕ) (HasPut : List Release → Type 0) (xs : List Release) (s u : ReceiverState) (result : PutOut) (m n o : Meaning) (es fs : List Event)
+    → Gives so_far HasPut xs (flushed s.rules) Done u m n es → PutsEnd so_far made (having_given xs s.rules) n o result fs → Ends so_far made xs s.rules m o result (es ++ fs)
+end_done so_far made HasPut xs s u result m n o es fs g p = record {
   text = g.puts.text ++ p.text;
-  adds = p.adds ∙ (ap (λ l. so_far l ++ p.text) (sym (end_put s t xs ready e)) ∙ (ap (λ l. l ++ p.text) g.puts.adds ∙ append_assoc (so_far xs) g.puts.text p.text));
+  adds = p.adds ∙ (ap (λ l. so_far l ++ p.text) (end_put s xs) ∙ (ap (λ l. l ++ p.text) g.puts.adds ∙ append_assoc (so_far xs) g.puts.text p.text));
   puts = puts_then _ _ _ _ _ _ _ _ g.puts.puts p.puts;
 }

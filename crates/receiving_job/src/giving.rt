@@ -1,7 +1,7 @@
 //! What a receiver gives, put out: after each frame, and at the end.
 ghost use Rattle.std.specs.Prelude.{◌≡◌, ◌<◌, ◌^◌, ◌++◌, List, []};
 ghost use Rattle.stream_model.specs.Decoder.{Release};
-ghost use Rattle.stream_model.specs.Receiver.{take_frame};
+ghost use Rattle.stream_model.specs.Receiver.{take_frame, flushed};
 ghost use Rattle.scl_outside.specs.Events.{Event};
 ghost use Rattle.stream_receiver.specs.States.{counted, rest};
 ghost use Rattle.receiving_job.specs.Sinks.{AreFirst};
@@ -44,6 +44,21 @@ pub fn take<S: Sink, D: Duct>(
     }
 }
 
+/// Puts out what the receiver still holds.
+pub fn give_rest<S: Sink, D: Duct>(receiver: &mut Receiver, sink: &mut S, out: &mut D) -> PutOut
+    requires ready { IsReady receiver.old }
+    requires few { counted receiver.old.rules < 2 ^ 63 }
+    requires stands { (xs : List Release) × Stands (S.HasPut sink.old) receiver.old xs }
+    ensures gives { (xs : List Release) → Stands (S.HasPut sink.old) receiver.old xs
+        → (es : List Event)
+        × Gives S.so_far (S.HasPut sink.new) xs (flushed receiver.old.rules) result receiver.new
+        (D.meaning out.old) (D.meaning out.new) es }
+    ensures pick { receiver.new.pick ≡ receiver.old.pick }
+{
+    receiver.flush();
+    give(receiver, sink, out)
+}
+
 /// Puts out what the receiver still holds, and what the sink puts out at the end.
 pub fn finish<S: Sink, D: Duct>(receiver: &mut Receiver, sink: &mut S, out: &mut D) -> PutOut
     requires ready { IsReady receiver.old }
@@ -54,8 +69,7 @@ pub fn finish<S: Sink, D: Duct>(receiver: &mut Receiver, sink: &mut S, out: &mut
         × Ends S.so_far S.made xs receiver.old.rules (D.meaning out.old) (D.meaning out.new) result es }
     ensures pick { receiver.new.pick ≡ receiver.old.pick }
 {
-    receiver.flush();
-    match give(receiver, sink, out) {
+    match give_rest(receiver, sink, out) {
         PutOut::Done => {}
         PutOut::WriteFault => return PutOut::WriteFault,
     }

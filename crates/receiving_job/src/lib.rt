@@ -8,5 +8,5 @@ mod giving;
 mod sink;
 
 pub use capture::receive_capture;
-pub use giving::{finish, take};
+pub use giving::{finish, give_rest, take};
 pub use sink::Sink;

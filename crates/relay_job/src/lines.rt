@@ -7,7 +7,7 @@ ghost use Rattle.relay_job.specs.Lines.{end_line, count_line, count_lines};
 
 use crate::serving::End;
 use arrayvec::ArrayString;
-use itoa::Buffer;
+use scl_run::push_number;
 use thinning_relay::Relay;
 
 /// The lines of a relay: its own, of at most 70 bytes, and one of at most 132 bytes of each of at most 64 receivers.
@@ -68,15 +68,4 @@ fn push_peer(lines: &mut Lines, relay: &Relay, j: usize)
     push_number(lines, " failed=", relay.failed(j));
     push_number(lines, " left=", relay.queued(j));
     lines.push_str("\n");
-}
-
-/// Appends a text and a number.
-fn push_number(lines: &mut Lines, before: &str, n: u64)
-    requires { length lines.old.bytes + length before.now + 20 ≤ 8704 }
-    ensures text { lines.new.bytes ≡ lines.old.bytes ++ before.now ++ decimal n }
-    ensures size { length lines.new.bytes ≤ length lines.old.bytes + length before.now + 20 }
-{
-    let mut digits = Buffer::new();
-    lines.push_str(before);
-    lines.push_str(digits.format(n));
 }

@@ -37,6 +37,9 @@ scl carries JPEG 2000 codestreams over RTP. It reads standard input and writes s
   scl gen SEED W H C LEVELS 444|422|420 [rpcl] [eph]
                                   writes a codestream of W by H samples and C components with drawn code-blocks: W and H
                                   are 1 to 4096, C 1 to 4, LEVELS 0 to 15
+  scl trial SEED COUNT LOSS WINDOW T
+                                  packs, loses, thins and receives COUNT generated codestreams, and writes one line of
+                                  numbers: COUNT is 1 to 64, LOSS 0 to 1000 of 1000 datagrams
   scl head                        shows the main header at the front of a codestream
   scl order                       shows the precincts of that header's image in packet order
   scl --help                      this page

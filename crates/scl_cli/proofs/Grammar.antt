@@ -97,6 +97,25 @@ with_seven words v a b c d e f g (more, is) n first second third fourth fifth si
     same_words words (verb_word v ∷ a ∷ b ∷ c ∷ d ∷ e ∷ f ∷ g ∷ []) n
     (at_eight words (verb_word v) a b c d e f g (record { zeroth = zeroth; first = first; second = second; third = third; fourth = fourth; fifth = fifth; sixth = sixth; seventh = seventh }))
 
+-- Words of which there are six.
+pub with_five : (words : List (List ℕ)) (v : Verb) (a b c d e : List ℕ) → Begins v words → length words ≡ 6 → slice_get words 1 ≡ Some a → slice_get words 2 ≡ Some b → slice_get words 3 ≡ Some c
+    → slice_get words 4 ≡ Some d → slice_get words 5 ≡ Some e → words ≡ verb_word v ∷ a ∷ b ∷ c ∷ d ∷ e ∷ []
+with_five [] v a b c d e begin n first second third fourth fifth = absurd (omega (arith, n))
+with_five (t ∷ []) v a b c d e begin n first second third fourth fifth = absurd (omega (arith, n))
+with_five (t ∷ q ∷ []) v a b c d e begin n first second third fourth fifth = absurd (omega (arith, n))
+with_five (t ∷ q ∷ r ∷ []) v a b c d e begin n first second third fourth fifth = absurd (omega (arith, n))
+with_five (t ∷ q ∷ r ∷ s ∷ []) v a b c d e begin n first second third fourth fifth = absurd (omega (arith, n))
+with_five (t ∷ q ∷ r ∷ s ∷ w ∷ []) v a b c d e begin n first second third fourth fifth = absurd (omega (arith, n))
+with_five (t ∷ q ∷ r ∷ s ∷ w ∷ x ∷ y ∷ more) v a b c d e begin n first second third fourth fifth = absurd (omega (arith, n))
+with_five (t ∷ q ∷ r ∷ s ∷ w ∷ x ∷ []) v a b c d e (rest, is) n first second third fourth fifth =
+    let zeroth : t ≡ verb_word v = cc in
+    let one : q ≡ a = cc in
+    let two : r ≡ b = cc in
+    let three : s ≡ c = cc in
+    let four : w ≡ d = cc in
+    let five : x ≡ e = cc in
+    rw (zeroth, one, two, three, four, five) refl
+
 -- Words of which there are seven or more, by the first seven.
 pub with_six : (words : List (List ℕ)) (v : Verb) (a b c d e f : List ℕ) → Begins v words → 7 ≤ length words → slice_get words 1 ≡ Some a → slice_get words 2 ≡ Some b → slice_get words 3 ≡ Some c
     → slice_get words 4 ≡ Some d → slice_get words 5 ≡ Some e → slice_get words 6 ≡ Some f → words ≡ verb_word v ∷ a ∷ b ∷ c ∷ d ∷ e ∷ f ∷ drop 7 words

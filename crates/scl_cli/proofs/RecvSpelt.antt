@@ -6,7 +6,7 @@ use Rattle.stream_receiver.specs.declared.pick.Pick.{Pick}
 use Rattle.stream_receiver.specs.States.{pick_of}
 use Rattle.recv_job.specs.Settings.{Settings}
 use Rattle.scl_cli.specs.declared.command.Command.{Command}
-use Rattle.scl_cli.specs.declared.command.Command.TheVariants.{Thin, Head, Order, Parse, Pack, Report, Rebuild, Recv, Send, Relay, Deliver, Gen}
+use Rattle.scl_cli.specs.declared.command.Command.TheVariants.{Thin, Head, Order, Parse, Pack, Report, Rebuild, Recv, Send, Relay, Deliver, Gen, Trial}
 use Rattle.scl_cli.specs.declared.command.Verb.{Verb}
 use Rattle.scl_cli.specs.declared.command.Verb.TheVariants as verbs
 use Rattle.scl_cli.specs.Commands.{Begins, HasPick, IsReceiver, verb_of, verb_word, words_of}
@@ -33,6 +33,7 @@ as_recv (Send s) e = absurd (cc)
 as_recv (Relay s) e = absurd (cc)
 as_recv (Deliver l) e = absurd (cc)
 as_recv (Gen g) e = absurd (cc)
+as_recv (Trial asked) e = absurd (cc)
 
 -- the stream that a receiver picks
 abbrev pub picked : Settings → Pick

@@ -18,7 +18,7 @@ use Rattle.deliver_job.specs.Items.{ranges_of}
 use Rattle.deliver_job.proofs.Lawful.{delivered_inputs_are_lawful}
 use Rattle.scl_run.proofs.Decided.{decides, wants}
 use Rattle.scl_cli.specs.declared.command.Command.{Command}
-use Rattle.scl_cli.specs.declared.command.Command.TheVariants.{Thin, Head, Order, Parse, Pack, Report, Rebuild, Recv, Send, Relay, Deliver, Gen}
+use Rattle.scl_cli.specs.declared.command.Command.TheVariants.{Thin, Head, Order, Parse, Pack, Report, Rebuild, Recv, Send, Relay, Deliver, Gen, Trial}
 use Rattle.scl_cli.specs.Commands.{Spells, form}
 use Rattle.scl_cli.specs.Jobs.{job}
 use Rattle.scl_cli.specs.Runs.{Ran}
@@ -37,6 +37,7 @@ lawful (Send s) range = sent_inputs_are_lawful s.plan range.plan
 lawful (Relay settings) range = no_input_is_lawful
 lawful (Deliver list) range = delivered_inputs_are_lawful (ranges_of list)
 lawful (Gen g) range = no_input_is_lawful
+lawful (Trial asked) range = no_input_is_lawful
 
 -- words that spell nothing are said to
 pub spells_nothing : (words : List (List ℕ)) (s t : Meaning) → ((command : Command) → Spells command words → None ≡ Some command) → Step s (Noted words_line) t → Ran words s t 2

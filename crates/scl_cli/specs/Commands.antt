@@ -6,7 +6,7 @@ use Rattle.stream_receiver.specs.declared.pick.Pick.{Pick}
 use Rattle.relay_job.specs.Settings.{Target, AreSettings}
 use Rattle.recv_job.specs.Settings.{Settings as Receiver, AreSettings as AreReceiver}
 use Rattle.scl_cli.specs.declared.command.Command.{Command}
-use Rattle.scl_cli.specs.declared.command.Command.TheVariants.{Thin, Head, Order, Parse, Pack, Report, Rebuild, Recv, Send, Relay, Deliver, Gen}
+use Rattle.scl_cli.specs.declared.command.Command.TheVariants.{Thin, Head, Order, Parse, Pack, Report, Rebuild, Recv, Send, Relay, Deliver, Gen, Trial}
 use Rattle.scl_cli.specs.declared.command.Stamps.{Stamps}
 use Rattle.scl_cli.specs.declared.command.Verb.{Verb}
 use Rattle.deliver_job.specs.Positions.{IsList, list_word}
@@ -16,6 +16,7 @@ use Rattle.codestream_make.specs.declared.shape.Sub.{Sub}
 use Rattle.codestream_make.specs.declared.shape.Sub.TheVariants.{S444, S422, S420}
 use Rattle.gen_job.specs.declared.generation.Generation.{Generation}
 use Rattle.gen_job.specs.GenJob.{shape_of}
+use Rattle.trial_job.specs.Job.{IsTrial}
 
 -- The first word of a command.
 abbrev pub verb_word : Verb → List ℕ
@@ -31,6 +32,7 @@ verb_word verb.Send = codes "send"
 verb_word verb.Relay = codes "relay"
 verb_word verb.Deliver = codes "deliver"
 verb_word verb.Gen = codes "gen"
+verb_word verb.Trial = codes "trial"
 
 -- The ranges of a timestamp and of a step.
 pub record IsStamps (stamps : Stamps) : Type 0 where
@@ -155,6 +157,13 @@ form (Gen g) = record {
       decimal g.seed ∷ decimal g.width ∷ decimal g.height ∷ decimal g.components ∷ decimal g.levels ∷ sub_word g.sub
       ∷ option_words g.order g.eph;
   IsInRange = IsGeneration g;
+}
+form (Trial asked) = record {
+  verb = verb.Trial;
+  values =
+      decimal asked.seed ∷ decimal asked.count ∷ decimal asked.loss ∷ decimal asked.window ∷ decimal asked.limit
+      ∷ [];
+  IsInRange = IsTrial asked;
 }
 
 -- The first word of a command, as a name.

@@ -1,7 +1,7 @@
 -- What each command is to do.
 use Rattle.scl_run.specs.Job.{Job}
 use Rattle.scl_cli.specs.declared.command.Command.{Command}
-use Rattle.scl_cli.specs.declared.command.Command.TheVariants.{Thin, Head, Order, Parse, Pack, Report, Rebuild, Recv, Send, Relay, Deliver, Gen}
+use Rattle.scl_cli.specs.declared.command.Command.TheVariants.{Thin, Head, Order, Parse, Pack, Report, Rebuild, Recv, Send, Relay, Deliver, Gen, Trial}
 use Rattle.stream_receiver.specs.States.{pick_of}
 use Rattle.parse_job.specs.ParseJob.{parse_job}
 use Rattle.pack_job.specs.PackJob.{pack_job}
@@ -12,6 +12,7 @@ use Rattle.relay_job.specs.Job.{relay_job}
 use Rattle.send_job.specs.Job.{send_job}
 use Rattle.deliver_job.specs.DeliverJob.{deliver_job}
 use Rattle.gen_job.specs.GenJob.{shape_of, gen_job}
+use Rattle.trial_job.specs.Job.{trial_job}
 use Rattle.deliver_job.specs.Items.{ranges_of}
 use Rattle.scl_cli.specs.ThinJob.{thin_job}
 use Rattle.scl_cli.specs.HeaderJobs.{head_job, order_job}
@@ -30,3 +31,4 @@ job (Send settings) = send_job settings
 job (Relay settings) = relay_job settings
 job (Deliver list) = deliver_job (ranges_of list)
 job (Gen g) = gen_job (shape_of g) g.seed
+job (Trial asked) = trial_job asked

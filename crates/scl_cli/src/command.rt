@@ -16,6 +16,7 @@ use crate::recv::recv_of;
 use crate::relay::relay_of;
 use crate::send::send_of;
 use crate::thin::thin_of;
+use crate::trial::trial_of;
 use deliver_job::Positions;
 use gen_job::Generation;
 use packetiser::PackPlan;
@@ -23,6 +24,7 @@ use recv_job::Settings as Reception;
 use relay_job::Settings;
 use send_job::Settings as Sending;
 use stream_receiver::Pick;
+use trial_job::Trial;
 
 /// What the program is asked to do.
 #[derive(Drop)]
@@ -51,6 +53,9 @@ pub enum Command {
     Deliver(Positions),
     /// `gen SEED W H C LEVELS 444|422|420 [rpcl] [eph]`: write a generated codestream.
     Gen(Generation),
+    /// `trial SEED COUNT LOSS WINDOW T`: write one line about generated codestreams that are packed, lost, thinned and
+    /// received.
+    Trial(Trial),
 }
 
 /// The timestamps of codestreams: that of the first, and the step from one to the next, at least 1, modulo 2^32.
@@ -75,6 +80,7 @@ pub enum Verb {
     Relay,
     Deliver,
     Gen,
+    Trial,
 }
 
 /// The command that a word begins.
@@ -95,6 +101,7 @@ fn verb_in(word: &str) -> Option<Verb>
         "relay" => Some(Verb::Relay),
         "deliver" => Some(Verb::Deliver),
         "gen" => Some(Verb::Gen),
+        "trial" => Some(Verb::Trial),
         _ => None,
     }
 }
@@ -120,5 +127,6 @@ pub fn command_of(words: &Words) -> Option<Command>
         Verb::Relay => relay_of(words),
         Verb::Deliver => deliver_of(words),
         Verb::Gen => gen_of(words),
+        Verb::Trial => trial_of(words),
     }
 }

@@ -3,9 +3,9 @@ ghost use Rattle.std.specs.Prelude.{◌≡◌, ◌≤◌, ◌+◌, ◌*◌, ◌+
 ghost use Rattle.std.specs.List.{flat_map, range_with_len};
 ghost use Rattle.scl_cli.specs.HeadLines.{line, area_line, component_line, precinct_line, order_line, head_lines};
 
-use crate::texts::push_number;
 use arrayvec::ArrayString;
 use j2k_markers::{Head, RPCL};
+use scl_run::push_number;
 
 /// Lines of a main header: one of its area, five with two numbers at most each, and two times sixteen with three.
 type Lines = ArrayString<4096>;

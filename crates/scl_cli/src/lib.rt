@@ -17,9 +17,9 @@ mod recv;
 mod relay;
 mod send;
 mod socket;
-mod texts;
 mod thin;
 mod top_call;
+mod trial;
 mod words;
 
 pub use command::{Command, Stamps, Verb};
@@ -27,6 +27,3 @@ pub use machine::Machine;
 pub use scl_run::{Ending, Reason, Refusal};
 pub use top_call::run;
 pub use words::Words;
-
-#[cfg(test)]
-mod tests;

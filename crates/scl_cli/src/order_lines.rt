@@ -3,9 +3,9 @@ ghost use Rattle.std.specs.Prelude.{◌≡◌};
 ghost use Rattle.codestream_model.specs.Precincts.{IsPrecinct};
 ghost use Rattle.scl_cli.specs.OrderLines.{place_line};
 
-use crate::texts::push_number;
 use arrayvec::ArrayString;
 use pcrl_order::OrderWalk;
+use scl_run::push_number;
 
 /// A line of a precinct: its six numbers have at most twenty digits each.
 type Line = ArrayString<160>;

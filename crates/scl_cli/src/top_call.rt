@@ -29,6 +29,7 @@ use scl_outside::Outside;
 use scl_run::{Ending, finish};
 use send_job::send;
 use std::alloc::Global;
+use trial_job::write_trial;
 
 /// Performs a command.
 fn perform<O: Outside>(alloc: Global, command: Command, out: &mut O) -> Ending
@@ -49,6 +50,7 @@ fn perform<O: Outside>(alloc: Global, command: Command, out: &mut O) -> Ending
         Command::Relay(settings) => relay(alloc, &settings, out),
         Command::Deliver(list) => deliver(alloc, list.items(), out),
         Command::Gen(asked) => write_generated(alloc, asked, out),
+        Command::Trial(asked) => write_trial(alloc, asked, out),
     }
 }
 

@@ -3,3 +3,4 @@ pub mod CaptureInputLaws
 pub mod HeaderInputLaws
 pub mod Performed
 pub mod Decided
+pub mod Written

@@ -4,7 +4,7 @@ use Rattle.wire_model.specs.Receptions.{Reception}
 use Rattle.scl_outside.specs.Meaning.{Reply, Parcel}
 use Rattle.scl_outside.specs.Events.{WireEvent}
 use Rattle.scl_outside.specs.Effects.{Effects, receptions, answers}
-use Rattle.scl_run.specs.InputClass.{InputClass}
+use Rattle.scl_run.specs.InputClass.{InputClass, no_input}
 
 -- What came in: the bytes that were read, the answers to the calls for a datagram, and the answers of the links.
 pub record Seen : Type 0 where
@@ -50,3 +50,7 @@ plain inputs made memory = record {
   Closes = λ wire. Unit {0};
   memory = memory;
 }
+
+-- A job that reads nothing and writes this text; it may be out of memory before it writes.
+abbrev pub writing : List ℕ → Job
+writing text = plain no_input (λ read ended. text) BeforeInput

@@ -4,7 +4,7 @@ ghost use Rattle.send_job.specs.Offering.{with_fate, total, count_line};
 
 use crate::offering::Fate;
 use arrayvec::ArrayString;
-use itoa::Buffer;
+use scl_run::push_number;
 
 /// The line of a sender has at most 116 bytes.
 pub type Line = ArrayString<128>;
@@ -49,21 +49,10 @@ pub fn line_of(counts: &Counts) -> Line
 {
     let mut line = Line::new();
     let all = counts.sent + counts.lost + counts.failed;
-    push_number(&mut line, "SEND datagrams=", all);
-    push_number(&mut line, " sent=", counts.sent);
-    push_number(&mut line, " lost=", counts.lost);
-    push_number(&mut line, " failed=", counts.failed);
+    push_number(&mut line, "SEND datagrams=", u64::from(all));
+    push_number(&mut line, " sent=", u64::from(counts.sent));
+    push_number(&mut line, " lost=", u64::from(counts.lost));
+    push_number(&mut line, " failed=", u64::from(counts.failed));
     line.push_str("\n");
     line
-}
-
-/// Appends a text and a number.
-fn push_number(line: &mut Line, before: &str, n: u32)
-    requires { length line.old.bytes + length before.now + 20 ≤ 128 }
-    ensures text { line.new.bytes ≡ line.old.bytes ++ before.now ++ decimal n }
-    ensures size { length line.new.bytes ≤ length line.old.bytes + length before.now + 20 }
-{
-    let mut digits = Buffer::new();
-    line.push_str(before);
-    line.push_str(digits.format(n));
 }

@@ -379,7 +379,7 @@ all_known parts codestreams a fits few =
     ∙ (wholes_known left parts codestreams a fits ∙ (ap (λ (l : List Known). map known_of parts ++ l) (none_known left) ∙ append-nil (map known_of parts)))
 
 -- codestreams of bytes, joined, are bytes
-joined_bytes : (codestreams : List (List ℕ)) → AllByRecursion IsBytes codestreams → IsBytes (joined codestreams)
+pub joined_bytes : (codestreams : List (List ℕ)) → AllByRecursion IsBytes codestreams → IsBytes (joined codestreams)
 joined_bytes [] fits = λ i. omega arith
 joined_bytes (c ∷ codestreams) fits = bytes_join c (joined codestreams) fits.0 (joined_bytes codestreams fits.1)
 
@@ -410,3 +410,12 @@ sendable_is_accepted p parts codestreams can within =
       fit = subst F (sym all) fit;
       few = subst D (sym all) few;
     }
+
+-- and what is sent of it is its cut
+pub sendable_is_cut : (p : Plan) (parts : List Parts) (codestreams : List (List ℕ)) → CanBeSent p parts codestreams → closed p (joined codestreams) ≡ cut_of p parts
+sendable_is_cut p parts codestreams can =
+    let input = joined codestreams in
+    let bytes = joined_bytes codestreams can.bytes in
+    let due : due_by p input ≡ flat_map datagrams_of (sent_by p parts) = cut_is_due p input parts (all_known parts codestreams can.are_parts bytes can.few) can.fit in
+    let few : length (due_by p input) ≤ 8388607 = omega (arith, can.short, ap length due) in
+    ap (map datagram_bytes) (take_all 8388607 (due_by p input) few ∙ due)

@@ -10,6 +10,7 @@ mod receiver;
 mod receivers;
 mod relay;
 
+pub use level::level_of;
 pub use relay::{Peer, Relay, Turn};
 
 #[cfg(test)]

@@ -6,7 +6,7 @@ pub mod ShapeHeads
 pub mod MadePackets
 mod WorkedDraws
 mod WorkedTrials
-mod Trials
+pub mod Trials
 mod WorkedPacks
 pub mod GeneratedParts
 pub mod SentTrials

@@ -36,3 +36,6 @@ pack_of-requires c = rw c.in-Pack.is at (begins _ _ _ c.get.ensures c.in_ok-verb
 
 pub gen_of-requires : goal.gen_of-requires
 gen_of-requires c = rw c.in-Gen.is at (begins _ _ _ c.get.ensures c.in_ok-verb_in.ensures.named)
+
+pub trial_of-requires : goal.trial_of-requires
+trial_of-requires c = rw c.in-Trial.is at (begins _ _ _ c.get.ensures c.in_ok-verb_in.ensures.named)

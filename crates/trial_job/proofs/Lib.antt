@@ -1,0 +1,6 @@
+mod Counted
+mod Cut
+mod DeliverySteps
+mod Few
+mod Made
+mod Taken

@@ -1,0 +1,4 @@
+pub mod Receiving
+pub mod Job
+pub mod Counting
+pub mod Delivering
