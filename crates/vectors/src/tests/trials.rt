@@ -4,6 +4,7 @@ use super::*;
 use itoa::Buffer;
 
 /// What is drawn in a trial: the high bits of a linear congruential generator modulo 2^64.
+#[derive(Drop)]
 struct Draws {
     state: u64,
 }
@@ -33,9 +34,9 @@ fn delivered(alloc: Global, seed: u64, loss: u64, count: usize) -> Result<Vec<us
             }
         }
     }
-    for pair in list.get_mut(1..).unwrap_or_default().chunks_exact_mut(2) {
-        if draws.below(4) == 0 {
-            pair.reverse();
+    for at in 1..list.len() {
+        if at % 2 == 1 && at + 1 < list.len() && draws.below(4) == 0 {
+            list.swap(at, at + 1);
         }
     }
     Ok(list)
@@ -61,7 +62,7 @@ fn frames(capture: &[u8]) -> usize {
             return count;
         };
         let end = usize::from(u16::from_be_bytes([*high, *low])).wrapping_add(2);
-        rest = rest.get(end..).unwrap_or_default();
+        rest = rest.get(end..).unwrap_or(&[]);
     }
     0
 }
@@ -70,7 +71,7 @@ fn frames(capture: &[u8]) -> usize {
 fn kept_in(report: &[u8]) -> &[u8] {
     for line in report.split(|byte| *byte == b'\n') {
         if let Some(rest) = line.strip_prefix(b"END kept=") {
-            return rest.split(|byte| *byte == b' ').next().unwrap_or_default();
+            return rest.split(|byte| *byte == b' ').next().unwrap_or(&[]);
         }
     }
     &[]
