@@ -34,6 +34,14 @@ def encode(folder, name, *options):
     return path
 
 
+def write_repeated(codestream, size, path):
+    """Writes as many copies of the codestream as fit the size, and gives the number of bytes."""
+    with open(path, "wb") as out:
+        for _ in range(size // len(codestream)):
+            out.write(codestream)
+    return os.path.getsize(path)
+
+
 # The picture without loss, in code-blocks of 64 by 64, and with loss, in code-blocks of 32 by 32.
 KINDS = {
     "lossless": ("-reversible", "true", "-block_size", "{64,64}"),

@@ -9,15 +9,14 @@ and written a second, the time a datagram, the ratio to `cat`'s time, and the gr
 """
 import os
 import random
-import statistics
 import subprocess
 import tempfile
 
 from captures import frames_of, moved, write_frames
 from pictures import KINDS, encode
+from timing import TOP, counted, in_turn, program
 
-TOP = os.path.dirname(os.path.dirname(os.path.abspath(__file__)))
-SCL = os.path.join(TOP, "crates", "scl", "out", "scl")
+SCL = program()
 COPIES, SIZE, ROUNDS, SEED = 1500, 150_000_000, 5, 1
 STAMPS = 6000  # of one copy: two codestreams, 3,000 apart
 
@@ -32,36 +31,16 @@ def worn(datagrams):
     return left
 
 
-def measured(command, path):
-    """The processor time of a command that reads the file, the number of bytes that it writes, and its memory in KiB."""
-    with open(path, "rb") as source, tempfile.NamedTemporaryFile("r") as notes:
-        timed = ["/usr/bin/time", "-f", "%U %S %M", "-o", notes.name, *command]
-        child = subprocess.Popen(timed, stdin=source, stdout=subprocess.PIPE)
-        size = 0
-        while piece := child.stdout.read(1 << 20):
-            size += len(piece)
-        if child.wait() != 0:
-            raise SystemExit(f"{command} failed")
-        user, system, memory = notes.read().split()
-    return float(user) + float(system), size, int(memory)
-
-
 def timed(name, datagrams, work, commands):
     """Prints the lines of one capture."""
     path = os.path.join(work, "capture")
     write_frames(datagrams, path)
     commands = {" ".join(words[:1] + words[3:]): [SCL, *words] for words in commands} | {"cat": ["cat"]}
-    runs = {what: [] for what in commands}
-    for _ in range(ROUNDS):
-        for what, command in commands.items():
-            runs[what].append(measured(command, path))
-    plain = max(0.01, statistics.median(run[0] for run in runs["cat"]))
-    for what, found in runs.items():
-        seconds = max(0.01, statistics.median(run[0] for run in found))
-        size, memory = found[0][1], max(run[2] for run in found)
+    found = in_turn(ROUNDS, {what: lambda command=command: counted(command, path) for what, command in commands.items()})
+    for what, (_, seconds, memory, size) in found.items():
         print(f"{name:15} {what:13} {seconds:7.3f} s, {os.path.getsize(path) / seconds / 1e6:7.1f} MB/s in, "
               f"{size / seconds / 1e6:7.1f} MB/s out, {seconds / len(datagrams) * 1e9:6.0f} ns a datagram, "
-              f"{seconds / plain:6.1f} of cat's time, {memory / 1024:.1f} MiB")
+              f"{seconds / found['cat'].processor:6.1f} of cat's time, {memory / 1024:.1f} MiB")
 
 
 def compare(*commands):
