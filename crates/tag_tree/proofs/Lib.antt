@@ -10,3 +10,4 @@ pub mod WayLemmas
 pub mod FillLemmas
 pub mod LeafBits
 pub mod LabelLemmas
+pub mod DownLemmas

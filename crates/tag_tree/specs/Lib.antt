@@ -5,3 +5,4 @@ pub mod Kinds
 pub mod LeafReading
 pub mod LeafGoing
 pub mod LeafWriting
+pub mod MetNodes

@@ -1,8 +1,9 @@
 //! The reading half: the labels on a leaf's path, from the root down.
-ghost use Rattle.std.specs.Prelude.{◌≡◌, ◌≢◌, ◌<◌, ◌≤◌, false, length, OnOk};
+ghost use Rattle.std.specs.Prelude.{◌≡◌, ◌≢◌, ◌<◌, ◌≤◌, ℕ, false, length, OnOk, IfOk};
 ghost use Rattle.stuffed_bits.specs.BitInState.{IsFree, IsOfRun};
 ghost use Rattle.tag_tree.specs.Kinds.{FitsKind};
 ghost use Rattle.tag_tree.specs.LeafReading.{IsSameShape, IsNodeOf, path_node, ReadsLabel, ReadsNode, ReadsPath, ReadsLeaf};
+ghost use Rattle.tag_tree.specs.MetNodes.{IsMet, MayMeet, MayMeetBelow};
 ghost use Rattle.tag_tree.specs.LeafGoing.{GoesOn, KeepsBits, NodeWaits, PathWaits, LeafWaits, FreesNode, FreesPath, FreesLeaf};
 
 use crate::kind::Kind;
@@ -70,8 +71,11 @@ impl Tree {
         source: &mut Source<'_>,
     ) -> Result<u8, LabelStop>
         requires node { IsNodeOf self.old node }
+        requires upper { MayMeet kind self.old node.level node.above node.col node.row }
         requires inside { source.old.at ≤ length source.old.piece.now }
         requires own { FitsKind kind source.old.bits.part }
+        ensures met { IfOk result (λ label.
+            MayMeetBelow kind self.new node.level label node.col node.row) }
         ensures read { ReadsNode kind node self.old self.new source.old source.new result }
         ensures never { kind ≡ Kind.Inclusion → result ≢ Err LabelStop.TooGreat }
         ensures waits { NodeWaits kind node self.old self.new source.old source.new result }
@@ -87,6 +91,7 @@ impl Tree {
             return Ok(node.above);
         }
         let label = label_below(kind, node.above, source)?;
+        self.is_tree();
         self.meet(place, label);
         Ok(label)
     }
@@ -104,6 +109,7 @@ impl Tree {
         source: &mut Source<'_>,
     ) -> Result<u8, LabelStop>
         requires node { IsNodeOf self.old (path_node level above col row) }
+        requires upper { MayMeet kind self.old level above col row }
         requires inside { source.old.at ≤ length source.old.piece.now }
         requires own { FitsKind kind source.old.bits.part }
         ensures read { ReadsPath kind (path_node level above col row) self.old self.new
@@ -129,7 +135,54 @@ impl Tree {
         self.read_path(kind, level - 1, label, col, row, source)
     }
 
-    /// Reads the label of the leaf at a column and a row.
+    /// The lowest level whose node on a leaf's path was met, or the root's.
+    #[inline(always)]
+    fn lowest_met(&self, col: u32, row: u32) -> u32
+        requires col_in { col < self.now.cols }
+        requires row_in { row < self.now.rows }
+        ensures low { result ≤ self.now.root }
+        ensures met { result < self.now.root → IsMet self.now result col row }
+    {
+        let mut level = 0;
+        while level < self.root && !self.met[self.place(level, col, row)] {
+            level += 1;
+        }
+        level
+    }
+
+    /// Reads the label of a leaf from below the node of a level, which was met.
+    fn read_below(
+        &mut self,
+        kind: Kind,
+        level: u32,
+        col: u32,
+        row: u32,
+        source: &mut Source<'_>,
+    ) -> Result<u8, LabelStop>
+        requires low { level < self.old.root }
+        requires met { IsMet self.old level col row }
+        requires col_in { col < self.old.cols }
+        requires row_in { row < self.old.rows }
+        requires inside { source.old.at ≤ length source.old.piece.now }
+        requires own { FitsKind kind source.old.bits.part }
+        ensures read { ReadsLeaf kind col row self.old self.new source.old source.new result }
+        ensures never { kind ≡ Kind.Inclusion → result ≢ Err LabelStop.TooGreat }
+        ensures waits { LeafWaits kind col row self.old self.new source.old source.new result }
+        ensures free { FreesLeaf kind col row self.old self.new source.old source.new result }
+        ensures fresh { IsFree source.old.bits → OnOk result (IsFree source.new.bits) }
+        ensures goes { GoesOn kind source.old source.new result }
+        ensures same { IsSameShape self.old self.new }
+    {
+        self.is_tree();
+        let label = self.label(self.place(level, col, row));
+        if level == 0 {
+            return Ok(label);
+        }
+        self.read_path(kind, level - 1, label, col, row, source)
+    }
+
+    /// Reads the label of the leaf at a column and a row, from below the lowest node on its path
+    /// that was met.
     #[inline(always)]
     fn read_leaf(
         &mut self,
@@ -150,6 +203,10 @@ impl Tree {
         ensures goes { GoesOn kind source.old source.new result }
         ensures same { IsSameShape self.old self.new }
     {
+        let level = self.lowest_met(col, row);
+        if level < self.root {
+            return self.read_below(kind, level, col, row, source);
+        }
         self.read_path(kind, self.root, 0, col, row, source)
     }
 

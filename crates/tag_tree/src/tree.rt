@@ -1,7 +1,9 @@
 //! The tree: its labels, and which of its nodes were met.
-ghost use Rattle.std.specs.Prelude.{◌≡◌, ◌<◌, ◌≤◌, ◌*◌, ◌++◌, [], false, length, replicate, drop, IfOk};
+ghost use Rattle.std.specs.Prelude.{◌≡◌, ◌<◌, ◌≤◌, ◌*◌, ◌++◌, [], false, length, replicate, drop, max, slice_index, IfOk};
+ghost use Rattle.codestream_model.specs.TagTrees.{exponent};
 ghost use Rattle.tag_tree.specs.Places.{place_of};
 ghost use Rattle.tag_tree.specs.LeafReading.{Knows, told_at, met_at};
+ghost use Rattle.tag_tree.specs.MetNodes.{IsMetDown};
 
 use crate::layout::{LEVELS, bases, cols_at, exponent_of, most_nodes};
 use std::alloc::{AllocError, Global};
@@ -50,6 +52,7 @@ impl Model for Tree {
     ghost use Rattle.tag_tree.specs.Places.{base_of};
     ghost use Rattle.codestream_model.specs.TagTrees.{exponent};
     ghost use Rattle.tag_tree.specs.TreeState.{TreeState, nodes_of};
+    ghost use Rattle.tag_tree.specs.MetNodes.{IsMetDown};
 
     ghost Value = { TreeState };
 
@@ -69,7 +72,15 @@ impl Model for Tree {
         × (length t.met.items ≡ nodes_of t.leaves)
         × (t.root ≤ 16)
         × (0 < t.cols → 0 < t.rows → t.root ≡ exponent (max t.cols t.rows))
-        × ((level : ℕ) → level ≤ t.root → slice_index t.bases level ≡ base_of t.cols t.rows level) };
+        × ((level : ℕ) → level ≤ t.root → slice_index t.bases level ≡ base_of t.cols t.rows level)
+        × IsMetDown (record {
+          leaves = t.leaves;
+          cols = t.cols;
+          rows = t.rows;
+          root = t.root;
+          labels = t.labels.items;
+          met = t.met.items;
+        }) };
 }
 
 impl Tree {
@@ -141,10 +152,28 @@ impl Tree {
         }
     }
 
-    /// Meets a node.
+    /// Proof only: gives the caller `IsMetDown`, and the root's level.
+    pub(crate) fn is_tree(&self)
+        ensures down { IsMetDown self.now }
+        ensures root { 0 < self.now.cols → 0 < self.now.rows
+            → self.now.root ≡ exponent (max self.now.cols self.now.rows) }
+    {
+        let _ = &self.met;
+    }
+
+    /// The label of a node.
+    pub(crate) fn label(&self, place: usize) -> u8
+        requires { place < length self.now.labels }
+        ensures { result ≡ slice_index self.now.labels place }
+    {
+        self.labels[place]
+    }
+
+    /// Meets a node; the node above it was met.
     pub(crate) fn meet(&mut self, place: usize, label: u8)
         requires labelled { place < length self.old.labels }
         requires listed { place < length self.old.met }
+        requires down { IsMetDown (met_at self.old place label) }
         ensures { self.new ≡ met_at self.old place label }
     {
         self.labels[place] = label;

@@ -1,6 +1,7 @@
 //! The writing half: labels from the leaves, and the bits of each leaf.
-ghost use Rattle.std.specs.Prelude.{◌≡◌, ◌<◌, ◌≤◌, ◌*◌, [], length, drop, slice_index, IfOk};
+ghost use Rattle.std.specs.Prelude.{◌≡◌, ◌<◌, ◌≤◌, ◌+◌, ◌*◌, [], length, drop, slice_index, IfOk};
 ghost use Rattle.tag_tree.specs.LeafReading.{Knows, IsSameShape, IsNodeOf};
+ghost use Rattle.tag_tree.specs.MetNodes.{IsMet, IsMetDown};
 ghost use Rattle.tag_tree.specs.LeafWriting.{HoldsLeast, HasMet, IsLowered, Writes, WritesLeaf, WritesPath, MeetsLeaf, MeetsDown, lowered_at, marked_at, node_bits, inclusion_step, value_step, step_of};
 
 use crate::kind::Kind;
@@ -91,9 +92,10 @@ impl Tree {
         }
     }
 
-    /// Meets a node.
+    /// Meets a node; the node above it was met.
     fn mark(&mut self, place: usize)
-        requires { place < length self.old.met }
+        requires listed { place < length self.old.met }
+        requires down { IsMetDown (marked_at self.old place) }
         ensures { self.new ≡ marked_at self.old place }
     {
         self.met[place] = true;
@@ -110,6 +112,7 @@ impl Tree {
     ) -> Result<u8, Full>
         requires labelled { place < length self.old.labels }
         requires listed { place < length self.old.met }
+        requires down { IsMetDown (marked_at self.old place) }
         requires inside { bits.old.len ≤ length buf.old }
         ensures label { IfOk result (λ v. v ≡ slice_index self.old.labels place) }
         ensures met { self.new ≡ marked_at self.old place }
@@ -137,6 +140,8 @@ impl Tree {
         buf: &mut [u8],
     ) -> Result<(), Full>
         requires node { IsNodeOf self.old node }
+        requires upper { node.level < self.old.root
+            → IsMet self.old (node.level + 1) node.col node.row }
         requires inside { bits.old.len ≤ length buf.old }
         ensures bits { WritesPath kind node self.old bits.old bits.new buf.old buf.new result }
         ensures met { IfOk result (λ _. MeetsDown node.level node.col node.row self.old self.new) }
@@ -147,6 +152,7 @@ impl Tree {
         ensures beyond { drop bits.new.len buf.new ≡ drop bits.new.len buf.old }
     {
         let place = self.place(node.level, node.col, node.row);
+        self.is_tree();
         let label = self.put_node(kind, place, node.above, bits, buf)?;
         if node.level == 0 {
             return Ok(());

@@ -1,11 +1,12 @@
 -- A node's bits, and then those below it.
-use Rattle.std.proofs.Common.{◌≡◌, ◌<◌, ◌≤◌, ◌+◌, ◌-◌, ◌++◌, ℕ, Bool, List, length, slice_index, sym, ◌∙◌, ap, subst, arith}
+use Rattle.std.proofs.Common.{◌≡◌, ◌<◌, ◌≤◌, ◌+◌, ◌-◌, ◌++◌, ℕ, Bool, List, length, slice_index, refl, sym, ◌∙◌, ap, subst, arith}
 use Rattle.codestream_model.specs.TagTrees.{Seat, parent_label, root_level}
 use Rattle.tag_tree.specs.Places.{place_of}
 use Rattle.tag_tree.specs.TreeState.{TreeState}
 use Rattle.tag_tree.specs.LeafWriting.{Holds, HasMetFrom, IsOn, Writes, step_of, bits_down, node_bits, marked_at}
 use Rattle.tag_tree.proofs.WriteLemmas.{writes_behind, writes_no_more, writes_same, behind_both}
 use Rattle.tag_tree.proofs.WayLemmas.{marks_node, still_holds, first_bits, node_bits_are, bits_at_leaf, bits_by_node, bits_split, label_above, ok_then}
+use Rattle.tag_tree.proofs.DownLemmas.{down_after}
 use Rattle.tag_tree.proofs.tree.Tree.+put_path.Goals as goal
 
 pub returns-in_err-label-clause-bits : goal.returns-in_err-label-clause-bits
@@ -79,3 +80,9 @@ returns-clause-met t c = ok_then c.put_path.result _ _ c.put_path.ensures.met (�
 
 pub returns-clause-beyond : goal.returns-clause-beyond
 returns-clause-beyond t c = behind_both c.args.buf.now c.put_node.new.buf c.put_path.new.buf c.put_node.new.bits.len c.put_path.new.bits.len c.put_path.ensures.onward c.put_node.ensures.beyond c.put_path.ensures.beyond
+
+pub put_node-requires-clause-down : goal.put_node-requires-clause-down
+put_node-requires-clause-down t c =
+    let n = c.args.node in
+    let tree = c.args.self.now in
+    down_after tree (marked_at tree c.place-place.result) n.level n.col n.row c.place-place.result c.requires.node.col c.requires.node.row c.place-place.ensures.place c.is_tree.ensures.down c.requires.upper refl refl refl refl

@@ -1,5 +1,5 @@
 -- A node's answer, by whether it was met, is silent, or its label is read.
-use Rattle.std.proofs.Common.{◌≡◌, ◌<◌, ◌++◌, ℕ, List, [], ◌∷◌, drop, length, Some, None, Ok, Err, Result, true, false, refl, sym, ◌∙◌, ap, subst}
+use Rattle.std.proofs.Common.{◌≡◌, ◌<◌, ◌++◌, ℕ, List, [], ◌∷◌, drop, length, Some, None, Ok, Err, Result, true, false, inl, inr, refl, sym, ◌∙◌, ap, subst}
 use Rattle.std.proofs.lemmas.Result.{err_from_is_err_and}
 use Rattle.std.specs.List.{slice_range}
 use Rattle.codestream_model.specs.TagTrees.{Seat}
@@ -13,6 +13,8 @@ use Rattle.tag_tree.specs.declared.stop.LabelStop.TheVariants.{Need}
 use Rattle.tag_tree.proofs.KnowLemmas.{knows_more}
 use Rattle.tag_tree.proofs.AnswerLemmas.{node_known, node_silent, node_met, node_stopped, no_range}
 use Rattle.tag_tree.proofs.GoLemmas.{waits_here, known_free, silent_free, same_freed}
+use Rattle.tag_tree.specs.MetNodes.{IsMet, MayMeetBelow}
+use Rattle.tag_tree.proofs.DownLemmas.{down_after}
 use Rattle.tag_tree.proofs.tree.Tree.read_node.Goals as goal
 
 pub returns-in-Some-clause-read : goal.returns-in-Some-clause-read
@@ -98,3 +100,11 @@ returns-clause-read c = λ band nodes done bytes k r.
     let whole : c.meet.new.self ≡ met_at t place v = c.meet.ensures ∙ ap (λ (i : ℕ). met_at t i v) at_place in
     let O : Result ℕ LabelStop → Type 0 = λ x. IsLabel done all taken new.bits x (label_reading c.args.kind n.above (bits_after done all)) in
     rw whole (node_met c.args.kind n.level n.above v s nodes done all taken (met_at t place v) new.bits e spoken (subst O c.in_ok-label.was (c.label_below.ensures.read done bytes r)) more)
+
+pub meet-requires-clause-down : goal.meet-requires-clause-down
+meet-requires-clause-down c =
+    let n = c.args.node in
+    let t = c.args.self.now in
+    let spoken : IsSilent c.args.kind n.above → ⊥ = λ q. let yes : c.is_silent.result ≡ true = c.is_silent.ensures.1 q in let no : c.is_silent.result ≡ false = c.if-is_silent.false in absurd (cc) in
+    down_after t (met_at t c.place-place.result c.in_ok-label.label) n.level n.col n.row c.place-place.result c.requires.node.col c.requires.node.row c.place-place.ensures.place c.is_tree.ensures.down
+    (λ low. elim (c.requires.upper low) [ inl q ↦ absurd (spoken q) | inr h ↦ h ]) refl refl refl refl
