@@ -1,14 +1,12 @@
 -- Calls of the wire, one after another.
-use Rattle.std.proofs.Common.{◌≡◌, ◌++◌, ◌+◌, ◌&&◌, ◌||◌, ℕ, Bool, true, false, List, [], ◌∷◌, length, map, nat_le, if◌then◌else◌, refl, sym, ◌∙◌, ap, subst, append_assoc, arith}
+use Rattle.std.proofs.Common.{◌≡◌, ◌++◌, ◌+◌, ◌&&◌, ◌||◌, ℕ, Bool, true, false, List, [], ◌∷◌, nat_le, if◌then◌else◌, refl, ◌∙◌, ap, arith}
 use Rattle.std.specs.List.{flat_map}
-use Rattle.std.proofs.lemmas.List.{append-nil}
 use Rattle.std.proofs.lemmas.List.Concat.{flat_map-append}
 use Rattle.wire_model.specs.Receptions.{Reception, Arrived, NotReady, Closed, Failed}
 use Rattle.relay_model.specs.Lines.{came, has_closed, malformed_count}
-use Rattle.wire_model.specs.Datagram.{is_well_formed}
-use Rattle.scl_outside.specs.Meaning.{Parcel, Reply}
-use Rattle.scl_outside.specs.Events.{Event, WireEvent, OnWire, Received, Offered, Bound, Joined, receptions_by, answers_by, parcels_by, wire_fails, name_fails}
-use Rattle.scl_outside.specs.Effects.{Effects, HasPassed, HasPassedButReceiving, nothing, effect_of, and_then, effects, receptions, answers, parcels, wire_failed, name_failed}
+use Rattle.scl_outside.specs.Meaning.{Reply}
+use Rattle.scl_outside.specs.Events.{WireEvent, OnWire, Received, Offered, Bound, Joined, receptions_by, answers_by, parcels_by, wire_fails, name_fails}
+use Rattle.scl_outside.specs.Effects.{Effects, nothing, effect_of, and_then, effects, receptions, answers, parcels, wire_failed, name_failed}
 use Rattle.scl_outside.specs.Traces.{AtReads}
 use Rattle.polled_datagrams.specs.Offers.{on_wire}
 use Rattle.thinning_relay.specs.Flushing.{offers_in_order}

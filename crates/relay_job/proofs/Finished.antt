@@ -1,32 +1,29 @@
 -- How a relay begins, and how it finishes.
-use Rattle.std.proofs.Common.{◌≡◌, ◌≤◌, ◌<◌, ◌+◌, ◌-◌, ◌^◌, ◌++◌, ◌⊎◌, inl, inr, ℕ, zero, suc, Bool, true, false, List, [], ◌∷◌, Option, Some, length, map, replicate, if◌then◌else◌, refl, sym, ◌∙◌, ap, subst, arith, append_assoc}
-use Rattle.std.specs.Prelude.{slice_get, decimal, codes}
+use Rattle.std.proofs.Common.{◌≡◌, ◌+◌, ◌++◌, inl, inr, ℕ, zero, suc, true, false, List, [], ◌∷◌, Some, length, map, refl, sym, ◌∙◌, ap, subst, arith}
+use Rattle.std.specs.Prelude.{slice_get}
 use Rattle.std.specs.List.{flat_map}
 use Rattle.std.proofs.lemmas.List.{append-nil}
 use Rattle.std.proofs.lemmas.List.Concat.{flat_map-append}
 use Rattle.wire_model.specs.Receptions.{Reception}
-use Rattle.wire_model.specs.LinkAnswers.{LinkAnswer, NotReady}
-use Rattle.relay_model.specs.Queue.{Tale, Told, untold, turns}
+use Rattle.wire_model.specs.LinkAnswers.{LinkAnswer}
+use Rattle.relay_model.specs.Queue.{Tale, Told, untold}
 use Rattle.relay_model.specs.Relays.{given_by, relay_tale, left_over, HasTurned}
-use Rattle.relay_model.specs.Lines.{came, has_closed, malformed_count, end_word, relay_line, peer_line, peer_lines, relay_lines}
+use Rattle.relay_model.specs.Lines.{came, has_closed, malformed_count, end_word, relay_line, peer_line, peer_lines}
 use Rattle.relay_model.proofs.Tales.{turns_told, flushes_told}
 use Rattle.scl_outside.specs.Meaning.{Meaning, Parcel, Reply}
-use Rattle.scl_outside.specs.Events.{Event, WireEvent, OnWire, Bound, Joined, Wrote, WriteFailed, receptions_by, answers_by}
+use Rattle.scl_outside.specs.Events.{Event, WireEvent, Bound, Joined, Wrote, WriteFailed, receptions_by, answers_by}
 use Rattle.scl_outside.specs.Steps.{Step}
-use Rattle.scl_outside.specs.Effects.{Effects, HasPassed, nothing, and_then, effect_of, effects, receptions, answers, parcels, wire_failed}
+use Rattle.scl_outside.specs.Effects.{Effects, nothing, effects, receptions, answers, parcels, wire_failed}
 use Rattle.scl_outside.specs.Traces.{Trace, AtReads}
 use Rattle.scl_outside.proofs.Traces.{trace_join, trace_one, effects_more, at_reads_join}
 use Rattle.polled_datagrams.specs.Offers.{on_wire, answers_to, sent_to}
-use Rattle.polled_datagrams.specs.Sending.{depth_of}
 use Rattle.thinning_relay.proofs.Flushing.{answers_to-append}
-use Rattle.thinning_relay.specs.Receivers.{queued}
 use Rattle.thinning_relay.specs.Relaying.{IsNewRelay, IsNewReceiver, receivers_of}
 use Rattle.thinning_relay.specs.declared.receiver.Receiver.{Receiver}
 use Rattle.thinning_relay.specs.declared.relay.Relay.{Relay}
-use Rattle.thinning_relay.specs.declared.relay.Peer.{Peer}
 use Rattle.scl_run.specs.declared.ending.Ending.TheVariants.{Done, WriteFault}
 use Rattle.scl_run.specs.Job.{seen}
-use Rattle.scl_run.specs.Performing.{IsSoFar, IsFinished, EndsAs, Performs}
+use Rattle.scl_run.specs.Performing.{IsSoFar, IsFinished, Performs}
 use Rattle.scl_run.proofs.Performed.{performs}
 use Rattle.relay_job.specs.declared.serving.End.{End}
 use Rattle.relay_job.specs.Settings.{Target, Settings, AreSettings, addresses}
@@ -34,7 +31,7 @@ use Rattle.relay_job.specs.Held.{peers_of}
 use Rattle.relay_job.specs.Turns.{TurnTaken, turns_of, idle_run, ArePolled}
 use Rattle.relay_job.specs.Job.{tale_of, tales_from, written_by, SendsEach, naming, HasEnded, HasDrained, IsClosed, KeepsToWords, are_offers, named_by, relay_job}
 use Rattle.relay_job.specs.Serving.{IsCounted, Tracks, Turned, IsOpen, word_of}
-use Rattle.relay_job.specs.Draining.{HasWaited, FlushedTo, Drained, Drains}
+use Rattle.relay_job.specs.Draining.{HasWaited, FlushedTo, Drains}
 use Rattle.relay_job.specs.Lines.{end_line, count_line, count_lines}
 use Rattle.relay_job.proofs.Calls.{on, effects_on, are, failed-append}
 use Rattle.relay_job.proofs.Turned.{found, each_polled, keeps_words}

@@ -1,5 +1,5 @@
 -- Flushes, one after another.
-use Rattle.std.proofs.Common.{◌≡◌, ◌≤◌, ◌<◌, ◌+◌, ◌-◌, ◌^◌, ◌++◌, ◌⊎◌, inl, inr, ℕ, zero, suc, Bool, true, false, List, [], ◌∷◌, Some, length, map, replicate, if◌then◌else◌, refl, sym, ◌∙◌, ap, subst, arith, length-append, append_assoc}
+use Rattle.std.proofs.Common.{◌≡◌, ◌≤◌, ◌<◌, ◌+◌, ◌++◌, ◌⊎◌, inl, inr, ℕ, zero, suc, Bool, true, false, List, [], ◌∷◌, Some, length, replicate, if◌then◌else◌, refl, sym, ◌∙◌, ap, subst, arith, length-append, append_assoc}
 use Rattle.std.specs.Prelude.{slice_get}
 use Rattle.std.proofs.lemmas.List.{append-nil}
 use Rattle.std.proofs.lemmas.List.Concat.{flat_map-append}
@@ -12,8 +12,8 @@ use Rattle.relay_model.specs.Lines.{came}
 use Rattle.relay_model.proofs.Tales.{flushes_told}
 use Rattle.scl_outside.specs.Meaning.{Meaning, Parcel, Reply}
 use Rattle.scl_outside.specs.Events.{Event, WireEvent, parcels_by, answers_by}
-use Rattle.scl_outside.specs.Effects.{Effects, nothing, effects, receptions, answers, parcels, wire_failed}
-use Rattle.scl_outside.specs.Traces.{Trace, AtReads}
+use Rattle.scl_outside.specs.Effects.{Effects, nothing, receptions, answers, parcels, wire_failed}
+use Rattle.scl_outside.specs.Traces.{AtReads}
 use Rattle.scl_outside.proofs.Traces.{trace_join, effects_then, at_reads_join}
 use Rattle.polled_datagrams.specs.Offers.{on_wire, answers_to, sent_to}
 use Rattle.thinning_relay.proofs.Flushing.{answers_to-append, sent_to-append, at_or_below}
@@ -26,7 +26,7 @@ use Rattle.thinning_relay.specs.declared.relay.Relay.{Relay}
 use Rattle.scl_run.specs.Performing.{IsSoFar}
 use Rattle.relay_job.specs.Settings.{Target, Settings}
 use Rattle.relay_job.specs.Job.{are_offers, relay_job}
-use Rattle.relay_job.specs.Serving.{IsCounted, Tracks, Turned}
+use Rattle.relay_job.specs.Serving.{Turned}
 use Rattle.relay_job.specs.Draining.{AreEmpty, HasWaited, FlushedTo, Drained, Drains}
 use Rattle.relay_job.proofs.Calls.{on, effects_on, offers_of, offers-append, failed-append, names_of, offers_follow, are}
 use Rattle.relay_job.proofs.Tracked.{size, flush_size, counted}

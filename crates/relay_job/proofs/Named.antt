@@ -1,5 +1,5 @@
 -- Addresses that are named one after another.
-use Rattle.std.proofs.Common.{◌≡◌, ◌≤◌, ◌<◌, ◌+◌, ◌++◌, ◌||◌, ℕ, Bool, true, false, List, [], ◌∷◌, Some, length, map, get_or, refl, sym, ◌∙◌, ap, subst, arith, append_assoc}
+use Rattle.std.proofs.Common.{◌≡◌, ◌<◌, ◌+◌, ◌++◌, ℕ, Bool, true, false, List, [], ◌∷◌, Some, length, map, get_or, refl, sym, ◌∙◌, ap, subst, arith, append_assoc}
 use Rattle.std.specs.Prelude.{slice_get, drop}
 use Rattle.std.specs.List.{flat_map}
 use Rattle.std.proofs.lemmas.List.{append-nil}
@@ -10,7 +10,7 @@ use Rattle.relay_model.proofs.Tales.{turns_told, flushes_told}
 use Rattle.scl_outside.specs.Meaning.{Meaning, Parcel, Reply}
 use Rattle.scl_outside.specs.Events.{Event, WireEvent, OnWire, Bound, Joined, receptions_by, answers_by, parcels_by}
 use Rattle.scl_outside.specs.Steps.{Step}
-use Rattle.scl_outside.specs.Effects.{Effects, HasPassed, nothing, effects, receptions, answers, parcels, wire_failed}
+use Rattle.scl_outside.specs.Effects.{Effects, nothing, receptions, answers, parcels, wire_failed}
 use Rattle.scl_outside.specs.Traces.{Trace, AtReads}
 use Rattle.scl_outside.proofs.Traces.{trace_join, trace_one, at_reads_join}
 use Rattle.polled_datagrams.specs.Offers.{on_wire, answers_to, sent_to}

@@ -1,11 +1,10 @@
 -- What follows a turn.
-use Rattle.std.proofs.Common.{◌≡◌, ◌≤◌, ◌<◌, ◌+◌, ◌-◌, ◌^◌, ◌++◌, ◌&&◌, ◌||◌, ◌⊎◌, inl, inr, ℕ, Bool, true, false, nat_le, List, [], ◌∷◌, Result, Ok, Err, length, if◌then◌else◌, refl, sym, ◌∙◌, ap, subst, arith}
-use Rattle.std.specs.Prelude.{codes}
+use Rattle.std.proofs.Common.{◌≡◌, ◌≤◌, ◌<◌, ◌+◌, ◌++◌, ◌&&◌, inl, inr, ℕ, Bool, true, false, nat_le, List, [], ◌∷◌, Ok, length, if◌then◌else◌, refl, sym, ◌∙◌, ap, subst, arith}
 use Rattle.std.proofs.lemmas.Bool.Decides.{nat_tests}
 use Rattle.wire_model.specs.Receptions.{Reception, Arrived, NotReady, Closed, Failed}
 use Rattle.wire_model.specs.LinkAnswers.{LinkAnswer}
 use Rattle.wire_model.specs.LinkAnswers as link
-use Rattle.relay_model.specs.Lines.{came, has_closed, end_word}
+use Rattle.relay_model.specs.Lines.{came, has_closed}
 use Rattle.scl_outside.specs.Meaning.{Meaning, Reply}
 use Rattle.scl_outside.specs.Events.{Event, WireEvent, OnWire, Received, wire_fails}
 use Rattle.scl_outside.specs.Effects.{receptions, answers, wire_failed}
@@ -17,8 +16,6 @@ use Rattle.thinning_relay.specs.Relaying.{Turns, TurnsAll, CountsReceived, IsTur
 use Rattle.thinning_relay.specs.declared.relay.Relay.{Relay}
 use Rattle.thinning_relay.specs.declared.relay.Turn.{Turn}
 use Rattle.thinning_relay.specs.declared.relay.Turn.TheVariants as turn
-use Rattle.scl_run.specs.declared.ending.Ending.{Ending}
-use Rattle.scl_run.specs.declared.ending.Ending.TheVariants.{WireFault, NoMemory}
 use Rattle.scl_run.specs.Performing.{Performs}
 use Rattle.relay_job.specs.declared.serving.End.{End}
 use Rattle.relay_job.specs.declared.serving.End.TheVariants as end
@@ -26,8 +23,8 @@ use Rattle.relay_job.specs.declared.serving.Round.{Round}
 use Rattle.relay_job.specs.declared.serving.Round.TheVariants.{On, Over, Stop}
 use Rattle.relay_job.specs.Settings.{Settings}
 use Rattle.relay_job.specs.Turns.{all_not_ready, is_not_ready, is_idle, idle_run, turns_of}
-use Rattle.relay_job.specs.Job.{HasEnded, are_offers, relay_job}
-use Rattle.relay_job.specs.Serving.{Turned, IsOpen, IsRound, Rounds, Follows, ServeGives, word_of}
+use Rattle.relay_job.specs.Job.{are_offers, relay_job}
+use Rattle.relay_job.specs.Serving.{Turned, IsOpen, IsRound, Follows, ServeGives}
 use Rattle.relay_job.proofs.Calls.{offers_of, the_turn, turns_more, run_more}
 use Rattle.relay_job.proofs.Turned.{turned_more, passed_more, closed_more, stop_failed, stop_wanting}
 

@@ -1,6 +1,5 @@
 -- One receiver in a turn.
-use Rattle.std.proofs.Common.{◌≡◌, ◌≤◌, ◌<◌, ◌+◌, ◌-◌, ◌^◌, ◌++◌, ℕ, Bool, true, false, List, [], ◌∷◌, Option, Some, None, length, map, min, max, nat_lt, if◌then◌else◌, refl, sym, ◌∙◌, ap, subst, arith, length-append}
-use Rattle.std.proofs.lemmas.List.{append-nil}
+use Rattle.std.proofs.Common.{◌≡◌, ◌≤◌, ◌+◌, ◌++◌, ℕ, Bool, true, false, List, [], ◌∷◌, Option, Some, length, map, min, max, nat_lt, if◌then◌else◌, refl, sym, ◌∙◌, ap, subst, arith, length-append}
 use Rattle.wire_model.specs.Receptions.{Reception, Arrived, NotReady, Closed, Failed}
 use Rattle.wire_model.specs.LinkAnswers.{LinkAnswer}
 use Rattle.wire_model.specs.LinkAnswers as link
@@ -23,7 +22,7 @@ use Rattle.thinning_relay.specs.declared.receiver.Receiver.{Receiver}
 use Rattle.relay_job.specs.Settings.{Target}
 use Rattle.relay_job.specs.Turns.{TurnTaken, turns_of, IsPolled, ArePolled}
 use Rattle.relay_job.specs.Job.{are_offers}
-use Rattle.relay_job.specs.Serving.{IsCounted, Tracks}
+use Rattle.relay_job.specs.Serving.{Tracks}
 use Rattle.relay_job.proofs.Calls.{the_turn, turns_more, receptions_more, answers_more, parcels_more, came-append}
 
 -- the datagrams that a tale speaks of

@@ -1,43 +1,38 @@
 -- All receivers in a turn, and what follows it.
-use Rattle.std.proofs.Common.{◌≡◌, ◌≤◌, ◌<◌, ◌+◌, ◌-◌, ◌^◌, ◌++◌, ◌&&◌, ◌||◌, ◌⊎◌, inl, inr, ℕ, zero, suc, Bool, true, false, nat_le, List, [], ◌∷◌, Option, Some, None, length, min, if◌then◌else◌, refl, sym, ◌∙◌, ap, subst, arith, length-append, append_assoc}
-use Rattle.std.specs.Prelude.{slice_get, codes}
+use Rattle.std.proofs.Common.{◌≡◌, ◌≤◌, ◌+◌, ◌++◌, ◌||◌, ℕ, zero, suc, Bool, true, false, List, [], ◌∷◌, Some, length, if◌then◌else◌, refl, sym, ◌∙◌, ap, subst, arith, append_assoc}
+use Rattle.std.specs.Prelude.{slice_get}
 use Rattle.std.specs.List.{flat_map}
 use Rattle.std.proofs.lemmas.List.{append-nil}
 use Rattle.std.proofs.lemmas.List.Concat.{flat_map-append}
-use Rattle.std.proofs.lemmas.Bool.Decides.{nat_tests}
 use Rattle.wire_model.specs.Receptions.{Reception, Arrived, NotReady, Closed, Failed}
 use Rattle.wire_model.specs.LinkAnswers.{LinkAnswer}
-use Rattle.wire_model.specs.LinkAnswers as link
 use Rattle.wire_model.specs.Datagram.{is_well_formed}
 use Rattle.relay_model.specs.Queue.{Tale}
 use Rattle.relay_model.specs.Relays.{relay_tale}
-use Rattle.relay_model.specs.Lines.{came, has_closed, malformed_count, end_word}
+use Rattle.relay_model.specs.Lines.{came, has_closed, malformed_count}
 use Rattle.relay_model.proofs.Tales.{flushes_told}
-use Rattle.scl_outside.specs.Meaning.{Meaning, Parcel, Reply}
+use Rattle.scl_outside.specs.Meaning.{Meaning, Parcel}
 use Rattle.scl_outside.specs.Events.{Event, WireEvent, OnWire, Received, Offered, Bound, Joined, wire_fails}
-use Rattle.scl_outside.specs.Effects.{Effects, HasPassed, nothing, effect_of, and_then, effects, receptions, answers, parcels, wire_failed}
+use Rattle.scl_outside.specs.Effects.{Effects, nothing, effects, receptions, answers, parcels, wire_failed}
 use Rattle.scl_outside.specs.Traces.{Trace, AtReads}
 use Rattle.scl_outside.proofs.Traces.{trace_join, effects_then, at_reads_join}
 use Rattle.polled_datagrams.specs.Offers.{on_wire, answers_to, sent_to}
 use Rattle.thinning_relay.proofs.Flushing.{sent_to-append}
 use Rattle.thinning_relay.specs.Receivers.{any_moved, count_after}
 use Rattle.thinning_relay.specs.Flushing.{links}
-use Rattle.thinning_relay.specs.Relaying.{Turns, TurnsAll, TurnsNone, CountsReceived, IsTurn, receivers_of, arrived_count, refused_count}
+use Rattle.thinning_relay.specs.Relaying.{Turns, TurnsAll, CountsReceived, IsTurn, receivers_of, arrived_count, refused_count}
 use Rattle.thinning_relay.specs.declared.receiver.Receiver.{Receiver}
 use Rattle.thinning_relay.specs.declared.relay.Relay.{Relay}
 use Rattle.thinning_relay.specs.declared.relay.Turn.TheVariants as turn
 use Rattle.scl_run.specs.declared.ending.Ending.TheVariants.{WireFault, NoMemory}
 use Rattle.scl_run.specs.Job.{seen}
-use Rattle.scl_run.specs.Performing.{IsSoFar, EndsAs, Performs}
+use Rattle.scl_run.specs.Performing.{IsSoFar, Performs}
 use Rattle.scl_run.proofs.Performed.{performs}
-use Rattle.relay_job.specs.declared.serving.End.{End}
-use Rattle.relay_job.specs.declared.serving.End.TheVariants as end
-use Rattle.relay_job.specs.declared.serving.Round.TheVariants.{On, Over, Stop}
 use Rattle.relay_job.specs.Settings.{Target, Settings, addresses}
-use Rattle.relay_job.specs.Turns.{all_not_ready, is_not_ready, is_idle, idle_run, turns_of, has_failed, EachIsPolled}
-use Rattle.relay_job.specs.Job.{tale_of, naming, SendsEach, MayReceive, HasEnded, KeepsToWords, are_offers, named_by, relay_job}
-use Rattle.relay_job.specs.Serving.{Tracks, Turned, IsOpen, IsRound, Rounds, Follows, ServeGives, word_of}
-use Rattle.relay_job.proofs.Calls.{on, effects_on, offers_of, are, failed-append, names_of, names-append, offers_follow, the_turn, turns_more, receptions_more, parcels_more, run_more, came-append, closed-append, malformed-append}
+use Rattle.relay_job.specs.Turns.{has_failed, EachIsPolled}
+use Rattle.relay_job.specs.Job.{tale_of, naming, SendsEach, KeepsToWords, are_offers, named_by, relay_job}
+use Rattle.relay_job.specs.Serving.{Tracks, Turned, IsOpen}
+use Rattle.relay_job.proofs.Calls.{on, effects_on, offers_of, are, failed-append, names_of, names-append, offers_follow, receptions_more, parcels_more, came-append, closed-append, malformed-append}
 use Rattle.relay_job.proofs.Tracked.{came_more, counted, tracked, tale_after}
 
 -- an item of a list that is as long

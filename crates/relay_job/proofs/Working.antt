@@ -1,5 +1,5 @@
 -- How much work is left: turns and flushes end.
-use Rattle.std.proofs.Common.{◌≡◌, ◌≤◌, ◌<◌, ◌+◌, ◌-◌, ◌*◌, ◌^◌, ◌++◌, ◌==◌, ◌⊎◌, inl, inr, ℕ, zero, suc, Bool, true, false, List, [], ◌∷◌, Option, Some, None, length, if◌then◌else◌, refl, sym, ◌∙◌, ap, subst, arith}
+use Rattle.std.proofs.Common.{◌≡◌, ◌≤◌, ◌<◌, ◌+◌, ◌-◌, ◌*◌, ◌++◌, ◌==◌, ◌⊎◌, inl, inr, ℕ, zero, suc, Bool, true, false, List, [], ◌∷◌, Some, length, if◌then◌else◌, refl, sym, ◌∙◌, ap, subst, arith}
 use Rattle.std.specs.Prelude.{slice_get}
 use Rattle.std.proofs.lemmas.List.{append-nil}
 use Rattle.std.proofs.lemmas.Bool.{eq-eqb}
@@ -10,23 +10,21 @@ use Rattle.wire_model.specs.LinkAnswers.{LinkAnswer}
 use Rattle.wire_model.specs.LinkAnswers as link
 use Rattle.relay_model.specs.Queue.{Tale, Told, untold, poll}
 use Rattle.relay_model.specs.Relays.{given_by}
-use Rattle.relay_model.specs.Relays as relays
 use Rattle.scl_outside.specs.Meaning.{Meaning, Reply}
 use Rattle.scl_outside.specs.Effects.{answers}
 use Rattle.polled_datagrams.specs.Offers.{answers_to}
 use Rattle.polled_datagrams.specs.Sending.{depth_of}
-use Rattle.thinning_relay.specs.Receivers.{queued, any_moved, count_after, Served}
-use Rattle.thinning_relay.specs.Flushing.{links, FlushesAll}
-use Rattle.thinning_relay.specs.Relaying.{Turns, TurnsAll, ServedTurn, IsTurn, CountsReceived, Flushes, receivers_of, arrived_count}
+use Rattle.thinning_relay.specs.Receivers.{queued, any_moved, count_after}
+use Rattle.thinning_relay.specs.Flushing.{links}
+use Rattle.thinning_relay.specs.Relaying.{Turns, TurnsAll, ServedTurn, CountsReceived, receivers_of, arrived_count}
 use Rattle.thinning_relay.specs.declared.receiver.Receiver.{Receiver}
 use Rattle.thinning_relay.specs.declared.relay.Relay.{Relay}
 use Rattle.thinning_relay.specs.declared.relay.Turn.{Turn}
 use Rattle.thinning_relay.specs.declared.relay.Turn.TheVariants as turn
 use Rattle.relay_job.specs.declared.serving.Round.TheVariants.{On}
 use Rattle.relay_job.specs.Settings.{Settings}
-use Rattle.relay_job.specs.Serving.{Rounds, Follows, IsRound}
-use Rattle.relay_job.proofs.Tracked.{size, turned_size, counted}
-use Rattle.relay_job.proofs.Turned.{found}
+use Rattle.relay_job.specs.Serving.{Rounds, Follows}
+use Rattle.relay_job.proofs.Tracked.{turned_size, counted}
 
 -- all that waits in queues
 abbrev pub total : List Receiver → ℕ

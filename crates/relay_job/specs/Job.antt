@@ -6,7 +6,7 @@ use Rattle.relay_model.specs.Queue.{Tale}
 use Rattle.relay_model.specs.Relays.{given_by, left_over, ends_ready, relay_tale}
 use Rattle.relay_model.specs.Lines.{came, has_closed, relay_lines}
 use Rattle.scl_outside.specs.Meaning.{Parcel}
-use Rattle.scl_outside.specs.Events.{WireEvent, Received, Offered, Bound, Joined}
+use Rattle.scl_outside.specs.Events.{WireEvent, Offered, Bound, Joined}
 use Rattle.scl_outside.specs.Effects.{Effects, receptions}
 use Rattle.polled_datagrams.specs.Offers.{answers_to, sent_to}
 use Rattle.scl_run.specs.InputClass.{no_input}

@@ -1,5 +1,5 @@
 -- What was done of a job that writes a text, by how it ended.
-use Rattle.std.proofs.Common.{◌≡◌, ◌++◌, ℕ, List, [], ◌∷◌, refl, ◌∙◌, sym, ap, inl}
+use Rattle.std.proofs.Common.{◌≡◌, ◌++◌, ℕ, List, [], ◌∷◌, refl, ◌∙◌, sym, inl}
 use Rattle.scl_outside.specs.Meaning.{Meaning}
 use Rattle.scl_outside.specs.Events.{Wrote, WriteFailed}
 use Rattle.scl_outside.specs.Steps.{Step}

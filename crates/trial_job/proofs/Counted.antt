@@ -1,12 +1,7 @@
 -- What a trial counts are the numbers of its line.
-use Rattle.std.proofs.Common.{◌≡◌, ◌≤◌, ◌<◌, ◌-◌, ◌*◌, ◌^◌, ℕ, List, map, min, length, refl, sym, ◌∙◌, ap, subst, arith}
-use Rattle.std.specs.List.{AllByRecursion, sum_by}
+use Rattle.std.proofs.Common.{◌≡◌, ◌≤◌, ◌*◌, ℕ, List, map, length, refl, sym, ◌∙◌, ap, subst, arith}
 use Rattle.wire_model.specs.Thinning.{kept}
-use Rattle.std.proofs.lemmas.List.{length-map}
 use Rattle.stream_model.specs.Arrivals.{datagram_at}
-use Rattle.stream_model.specs.Cut.{datagram_bytes, sent_by}
-use Rattle.std.specs.List.{flat_map}
-use Rattle.stream_model.specs.Stream.{Parts, datagrams_of}
 use Rattle.stream_model.specs.ThinnedLaws.{cut_of}
 use Rattle.trial_model.specs.Trial.{trial_plan, trial_parts, delivered_positions, thinned_positions, trial_counts, TrialCounts}
 use Rattle.trial_model.specs.TrialLaws.{trial_codestreams, thinned_list}

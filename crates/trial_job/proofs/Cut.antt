@@ -1,5 +1,5 @@
 -- The datagrams that a sender makes of codestreams that can be sent, read from an outside that never fails.
-use Rattle.std.proofs.Common.{◌≡◌, ◌≤◌, ◌<◌, ◌+◌, ◌-◌, ◌^◌, ◌++◌, ℕ, Bool, true, false, List, [], ◌∷◌, length, Option, Some, None, refl, sym, ◌∙◌, ap, subst, append_assoc, inl, inr, arith}
+use Rattle.std.proofs.Common.{◌≡◌, ◌≤◌, ◌<◌, ◌-◌, ◌^◌, ◌++◌, ℕ, Bool, true, false, List, [], ◌∷◌, length, Option, Some, None, refl, sym, ◌∙◌, ap, subst, append_assoc, inl, inr, arith}
 use Rattle.std.specs.Prelude.{IfSome, MatchBool}
 use Rattle.std.proofs.lemmas.List.{append-nil, length-append}
 use Rattle.wire_model.specs.Causes.{Fell}
@@ -23,15 +23,12 @@ use Rattle.scl_outside.specs.Memory.{sure_meaning}
 use Rattle.scl_outside.specs.declared.never_fails.NeverFails.{NeverFails}
 use Rattle.scl_outside.proofs.Affects.{trace_affects}
 use Rattle.codestream_walk.specs.Faults.{walk_refusal}
-use Rattle.codestream_walk.specs.declared.fault.WalkWhy.{WalkWhy}
-use Rattle.codestream_walk.specs.declared.fault.WalkWhy.TheVariants as walk_why
 use Rattle.packetiser.specs.Packing.{Packing}
-use Rattle.packetiser.specs.Sending.{Sender, Sends, Answers, AreAll}
+use Rattle.packetiser.specs.Sending.{Sender, Sends, Answers}
 use Rattle.packetiser.specs.declared.packetiser.PackOut.{PackOut}
 use Rattle.packetiser.specs.declared.packetiser.PackOut.TheVariants as out
 use Rattle.scl_run.specs.declared.ending.Reason.TheVariants as reason
 use Rattle.scl_run.specs.declared.ending.Refusal.{Refusal}
-use Rattle.parse_job.specs.Inputs.{reason_for}
 use Rattle.pack_job.specs.SentInput.{AreSendable, sender_reason}
 use Rattle.pack_job.proofs.Lawful.{sent_inputs_are_lawful}
 use Rattle.pack_job.proofs.Octets.{octets_are}

@@ -1,12 +1,11 @@
 -- Frames of a trial given to a receiver one after another.
-use Rattle.std.proofs.Common.{◌≡◌, ◌≤◌, ◌<◌, ◌+◌, ◌-◌, ◌^◌, ◌++◌, ℕ, Bool, true, false, List, [], ◌∷◌, map, min, length, nat_le, Some, refl, sym, ◌∙◌, ap, subst, append_assoc, arith}
+use Rattle.std.proofs.Common.{◌≡◌, ◌≤◌, ◌<◌, ◌+◌, ◌-◌, ◌^◌, ◌++◌, ℕ, Bool, true, false, List, [], ◌∷◌, map, min, length, nat_le, refl, sym, ◌∙◌, ap, subst, append_assoc, arith}
 use Rattle.std.specs.Prelude.{cond, drop}
 use Rattle.std.specs.List.{AllByRecursion}
 use Rattle.std.proofs.lemmas.Bool.{le-leb}
-use Rattle.std.proofs.lemmas.List.{append-nil, length-append, drop_all}
+use Rattle.std.proofs.lemmas.List.{append-nil, length-append}
 use Rattle.wire_model.specs.Bytes.{IsBytes}
 use Rattle.wire_model.specs.Thinning.{is_kept, kept}
-use Rattle.stream_model.specs.Arrivals.{datagram_at}
 use Rattle.stream_model.specs.Decoder.{Release}
 use Rattle.stream_model.specs.Receiver as rules
 use Rattle.stream_model.specs.Receiver.{new_receiver, received, take_frames, take_frame, flushed, counts_of}
@@ -28,7 +27,7 @@ use Rattle.receiving_job.specs.Giving.{IsReady, HasGiven, Stands, Gives}
 use Rattle.receiving_job.proofs.Takes.{grown, all_bytes, end_put, end_counts}
 use Rattle.trial_job.specs.declared.receiving.Link.{Link}
 use Rattle.trial_job.specs.declared.receiving.Received.{Received}
-use Rattle.trial_job.specs.Receiving.{HasReleased, HasTaken, HasCounted}
+use Rattle.trial_job.specs.Receiving.{HasTaken, HasCounted}
 
 -- No write fails on an outside that never fails.
 pub never_broken : (bytes : List ℕ) (a b : NeverFails) (es : List Event) → Puts bytes (sure_meaning a) (sure_meaning b) WriteFault es → ⊥

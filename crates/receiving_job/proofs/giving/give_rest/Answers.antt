@@ -1,5 +1,3 @@
-use Rattle.std.proofs.Common.{List}
-use Rattle.stream_model.specs.Decoder.{Release}
 use Rattle.stream_model.specs.Receiver.{flushed}
 use Rattle.stream_receiver.specs.States.{rest}
 use Rattle.receiving_job.proofs.Takes.{first_flushed, flushed_is, gives_same}

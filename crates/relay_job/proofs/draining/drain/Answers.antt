@@ -1,5 +1,4 @@
-use Rattle.std.proofs.Common.{arith}
-use Rattle.relay_job.proofs.Flushed.{waning_none, waning_more, flush_works, drains_by_count, drains_all}
+use Rattle.relay_job.proofs.Flushed.{waning_none, waning_more, flush_works}
 use Rattle.relay_job.proofs.draining.drain.Goals as goal
 
 pub loop-idle-init : goal.loop-idle-init

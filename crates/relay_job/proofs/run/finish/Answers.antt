@@ -1,4 +1,4 @@
-use Rattle.std.proofs.Common.{◌∙◌, sym, ap}
+use Rattle.std.proofs.Common.{◌∙◌}
 use Rattle.relay_job.proofs.Finished.{ready, finishes, finishes_not}
 use Rattle.relay_job.proofs.run.finish.Goals as goal
 

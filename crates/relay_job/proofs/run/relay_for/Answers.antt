@@ -1,7 +1,7 @@
 use Rattle.std.proofs.Common.{◌≡◌, ◌<◌, ◌≤◌, ◌∙◌, ℕ, List, length, sym, subst, arith}
 use Rattle.std.specs.Prelude.{slice_index_or}
 use Rattle.thinning_relay.specs.declared.relay.Peer.{Peer}
-use Rattle.relay_job.specs.Settings.{Target, AreSettings, Settings}
+use Rattle.relay_job.specs.Settings.{AreSettings, Settings}
 use Rattle.relay_job.specs.Held.{peers_of}
 use Rattle.relay_job.proofs.Lists.{PeersTo, peers_more, peers_all, limits_within, depths_some, depths_most}
 use Rattle.relay_job.proofs.run.relay_for.Goals as goal

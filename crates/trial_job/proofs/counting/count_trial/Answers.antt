@@ -1,4 +1,4 @@
-use Rattle.std.proofs.Common.{◌≡◌, ◌<◌, ◌*◌, ◌∙◌, ap, refl, sym, subst, length, List, ℕ}
+use Rattle.std.proofs.Common.{◌<◌, ◌*◌, ◌∙◌, ap, refl, sym, subst, List, ℕ}
 use Rattle.std.specs.List.{AllByRecursion}
 use Rattle.trial_model.specs.Trial.{delivered_positions}
 use Rattle.trial_job.proofs.Counted.{counted_trial}

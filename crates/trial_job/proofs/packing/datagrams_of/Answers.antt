@@ -1,4 +1,4 @@
-use Rattle.std.proofs.Common.{◌≡◌, ◌++◌, ◌∷◌, [], ◌∙◌, ap, sym, subst, List, ℕ, Option, Some}
+use Rattle.std.proofs.Common.{◌++◌, ◌∷◌, [], ◌∙◌, ap, sym, subst}
 use Rattle.scl_outside.specs.Memory.{sure_meaning}
 use Rattle.stream_model.specs.Cut.{Plan}
 use Rattle.packetiser.specs.Sending.{Sender, Sends}

@@ -1,4 +1,4 @@
-use Rattle.std.proofs.Common.{◌≡◌, ◌∙◌, ap, sym, subst, arith, List, ℕ, Option, Some}
+use Rattle.std.proofs.Common.{◌≡◌, ◌∙◌, ap, sym, subst, arith, List, ℕ, Some}
 use Rattle.std.specs.Prelude.{IfOk}
 use Rattle.stream_model.specs.Cut.{Plan}
 use Rattle.stream_model.specs.ThinnedLaws.{CanBeSent, cut_of}

@@ -1,4 +1,4 @@
-use Rattle.std.proofs.Common.{◌++◌, ◌∷◌, [], List, ℕ, sym, subst, arith}
+use Rattle.std.proofs.Common.{◌++◌, ◌∷◌, [], List, ℕ, subst, arith}
 use Rattle.std.specs.Prelude.{get_or}
 use Rattle.std.proofs.lemmas.List.{drop_all, drop_more}
 use Rattle.wire_model.specs.Thinning.{kept}

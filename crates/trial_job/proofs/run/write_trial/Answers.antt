@@ -1,4 +1,4 @@
-use Rattle.std.proofs.Common.{[], ◌∷◌, ◌∙◌, ap, List, ℕ}
+use Rattle.std.proofs.Common.{[], ◌∷◌, ◌∙◌, ap}
 use Rattle.scl_outside.specs.Events.{Wrote, WriteFailed}
 use Rattle.trial_model.specs.Trial.{trial_line, TrialCounts}
 use Rattle.scl_run.proofs.Written.{no_memory, written, broken}

@@ -1,5 +1,5 @@
 use Rattle.std.proofs.Common.{refl}
-use Rattle.trial_job.proofs.Taken.{stands_of, few_of, taken_more}
+use Rattle.trial_job.proofs.Taken.{stands_of, taken_more}
 use Rattle.trial_job.proofs.receiving.Link.take.Goals as goal
 
 pub returns-clause-taken : goal.returns-clause-taken
